@@ -1,4 +1,4 @@
--- A caller with a `&` to the requests and a token of its lifetime may call `refuses_next`. It has the token and a
+-- A caller with a `&` to the requests and a token of its lifetime may call `count_and_is_refused`. It has the token and a
 -- truth value afterwards. Assumes `Logic`.
 use Rattle.std.proofs.Common.{◌≡◌, ℕ, Bool, List, [], ◌∷◌, refl, ap}
 use seplogic.Ra.Ura.{Ura}
@@ -17,8 +17,8 @@ use denote.Builtin.{bool}
 use denote.Steps.{nothing, only}
 use denote.Triple.Statement.{Contract}
 use denote.Triple.Spec.{triple_of}
-use Rattle.refusing_alloc.specs.contracts.requests.Requests as RQ
-use Rattle.refusing_alloc.specs.contracts.requests.Requests.refuses_next as RN
+use Rattle.refusing_alloc.specs.contracts.request_counter.RequestCounter as RQ
+use Rattle.refusing_alloc.specs.contracts.request_counter.RequestCounter.count_and_is_refused as RN
 
 abbrev pub Row : RattleType
 Row = RQ.the_row

@@ -8,5 +8,5 @@ abbrev pub refused_index : {B : Type 0} → RefusingHeap B → ℕ
 refused_index heap = heap.requests.refused
 
 -- a call whose results P describes may return r, with an allocator that refuses the request after n others
-abbrev pub MayAnswer : {B R : Type 0} → (Bor (RefusingHeap B) → R → Type 0) → ℕ → R → Type 0
-MayAnswer {B} P n r = (heap : Bor (RefusingHeap B)) × (refused_index heap.now ≡ n) × P heap r
+abbrev pub MayReturn : {B R : Type 0} → (Bor (RefusingHeap B) → R → Type 0) → ℕ → R → Type 0
+MayReturn {B} P n r = (heap : Bor (RefusingHeap B)) × (refused_index heap.now ≡ n) × P heap r

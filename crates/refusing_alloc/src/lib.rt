@@ -4,11 +4,11 @@
 #![tactic(auto)]
 
 ghost use Rattle.std.specs.Prelude.{◌≡◌, ◌<◌, ℕ, IfSome, alloc_error};
-ghost use Rattle.refusing_alloc.specs.RefusingHeap.{refused_index, MayAnswer};
+ghost use Rattle.refusing_alloc.specs.RefusingHeap.{refused_index, MayReturn};
 
-mod requests;
+mod request_counter;
 
-use requests::Requests;
+use request_counter::RequestCounter;
 use std::alloc::{AllocError, Allocator, Global};
 
 /// An allocator that refuses one request, and passes every other request on to `inner`.
@@ -19,25 +19,25 @@ use std::alloc::{AllocError, Allocator, Global};
 #[derive(Drop)]
 pub struct RefusingHeap<B: Allocator = Global> {
     inner: B,
-    requests: Requests,
+    requests: RequestCounter,
 }
 
 impl<B: Allocator> RefusingHeap<B> {
-    /// Returns an allocator that refuses the request after the first `passed` requests, and no other.
+    /// Returns an allocator that refuses the request after the first `passed_requests` requests, and no other.
     ///
-    /// With `passed` 0 it refuses the first request. It passes all other requests on to `inner`.
-    pub fn new(inner: B, passed: u64) -> RefusingHeap<B>
-        ensures { refused_index result ≡ passed }
+    /// With `passed_requests` 0 it refuses the first request. It passes all other requests on to `inner`.
+    pub fn new(inner: B, passed_requests: u64) -> RefusingHeap<B>
+        ensures { refused_index result ≡ passed_requests }
     {
         RefusingHeap {
             inner,
-            requests: Requests::refusing(passed),
+            requests: RequestCounter::refusing_request(passed_requests),
         }
     }
 
     /// Returns the number of requests that all threads have made so far, including the refused one.
-    pub fn requests(&self) -> u64 {
-        self.requests.made()
+    pub fn request_count(&self) -> u64 {
+        self.requests.counted_requests()
     }
 
     /// Returns whether this allocator has refused a request yet: whether it has had more requests than `new` lets pass.
@@ -50,7 +50,7 @@ impl<B: Allocator> RefusingHeap<B> {
     ///
     /// If `is_right` is false, it returns the other of the two, so that `refuse_in_turn` returns `None`. `work` calls
     /// it last, with the outcome of its own checks.
-    pub fn answer(&self, is_right: bool) -> Result<(), AllocError> {
+    pub fn expected_result(&self, is_right: bool) -> Result<(), AllocError> {
         if is_right == self.has_refused() {
             Err(AllocError)
         } else {
@@ -66,7 +66,7 @@ unsafe impl<B: Allocator> Allocator for RefusingHeap<B> {
     ghost dealloc_token = { λ heap ty ptr. B.dealloc_token heap.inner ty ptr };
 
     fn allocate(&self, size: usize, align: usize) -> Result<*mut u8, AllocError> {
-        if self.requests.refuses_next() {
+        if self.requests.count_and_is_refused() {
             return Err(AllocError);
         }
         self.inner.allocate(size, align)
@@ -90,13 +90,13 @@ pub fn refuse_in_turn<F: Fn(&RefusingHeap) -> Result<(), AllocError>>(
 ) -> Option<u64>
     requires { F.IsAlwaysCallable work.now }
     ensures refused { IfSome result (λ n. (k : ℕ) → k < n
-        → MayAnswer (F.post work.now) k (Err alloc_error)) }
-    ensures succeeded { IfSome result (λ n. MayAnswer (F.post work.now) n (Ok tt)) }
+        → MayReturn (F.post work.now) k (Err alloc_error)) }
+    ensures succeeded { IfSome result (λ n. MayReturn (F.post work.now) n (Ok tt)) }
 {
-    for passed in 0..u64::MAX {
-        let heap = RefusingHeap::new(alloc, passed);
+    for passed_requests in 0..u64::MAX {
+        let heap = RefusingHeap::new(alloc, passed_requests);
         match (work(&heap), heap.has_refused()) {
-            (Ok(()), false) => return Some(passed),
+            (Ok(()), false) => return Some(passed_requests),
             (Err(AllocError), true) => {}
             _ => return None,
         }

@@ -10,17 +10,17 @@ use Rattle.std.proofs.lemmas.List.Elements.{All-replicate}
 use Rattle.std.proofs.lemmas.List.Sums.{sum_by-cons}
 use Rattle.ring_base.specs.Numbers.{numbers_from}
 use Rattle.ring_base.specs.Processors.{IsProc, max_processors, has, elements}
-use Rattle.ring_base.specs.Passing.{passing}
+use Rattle.ring_base.specs.FilteredRanges.{filtered_range}
 use Rattle.ring_base.specs.Primaries.{weight_more, weight_same, votes_front}
 use Rattle.ring_base.proofs.ListPlaces.{zero_at}
-use Rattle.ring_base.specs.Group.{Group, AreVotes, votes_of, votes_in, IsFilled}
+use Rattle.ring_base.specs.Group.{Group, AreVotes, votes_of, votes_in, IsPaddedVotes}
 
 suc_last : (n : ℕ) → suc n + 1 ≡ suc (n + 1)
 suc_last n = omega arith
 
 -- a range with one number more at its end
-pub weight_last : (w : ℕ → ℕ) (p : ℕ → Bool) (first n : ℕ) → p (first + n) ≡ true → sum_by w (passing p first (n + 1))
-    ≡ sum_by w (passing p first n) + w (first + n)
+pub weight_last : (w : ℕ → ℕ) (p : ℕ → Bool) (first n : ℕ) → p (first + n) ≡ true → sum_by w (filtered_range p first (n + 1))
+    ≡ sum_by w (filtered_range p first n) + w (first + n)
 weight_last w p first zero pass =
     let e : first + 0 ≡ first = omega arith in
     omega (arith, weight_more w p first 0 (rw e at pass), ap w e)
@@ -28,28 +28,28 @@ weight_last w p first (suc n) pass =
     let e : suc first + n ≡ first + suc n = omega arith in
     let rest = weight_last w p (suc first) n (rw e pass) in
     let same = ap w e in
-    let longer_list = ap (λ (m : ℕ). sum_by w (passing p first m)) (suc_last n) in
+    let longer_list = ap (λ (m : ℕ). sum_by w (filtered_range p first m)) (suc_last n) in
     elim (cases_Bool (p first)) [
       | inl here ↦ omega (arith, weight_more w p first (n + 1) here, weight_more w p first n here, rest, same, longer_list)
       | inr none ↦ omega (arith, weight_same w p first (n + 1) none, weight_same w p first n none, rest, same, longer_list)
     ]
 
-pub weight_kept : (w : ℕ → ℕ) (p : ℕ → Bool) (first n : ℕ) → p (first + n) ≡ false → sum_by w (passing p first (n + 1)) ≡ sum_by w (passing p first n)
+pub weight_kept : (w : ℕ → ℕ) (p : ℕ → Bool) (first n : ℕ) → p (first + n) ≡ false → sum_by w (filtered_range p first (n + 1)) ≡ sum_by w (filtered_range p first n)
 weight_kept w p first zero fail =
     let e : first + 0 ≡ first = omega arith in
     weight_same w p first 0 (rw e at fail)
 weight_kept w p first (suc n) fail =
     let e : suc first + n ≡ first + suc n = omega arith in
     let rest = weight_kept w p (suc first) n (rw e fail) in
-    let longer_list = ap (λ (m : ℕ). sum_by w (passing p first m)) (suc_last n) in
+    let longer_list = ap (λ (m : ℕ). sum_by w (filtered_range p first m)) (suc_last n) in
     elim (cases_Bool (p first)) [
       | inl here ↦ omega (arith, weight_more w p first (n + 1) here, weight_more w p first n here, rest, longer_list)
       | inr none ↦ omega (arith, weight_same w p first (n + 1) none, weight_same w p first n none, rest, longer_list)
     ]
 
 -- the numbers that pass and those that don't weigh as much as all
-pub weight_parted : (w : ℕ → ℕ) (p : ℕ → Bool) (first n : ℕ) → sum_by w (passing p first n) + sum_by w
-    (passing (λ j. not (p j)) first n) ≡ sum_by w (numbers_from first n)
+pub weight_parted : (w : ℕ → ℕ) (p : ℕ → Bool) (first n : ℕ) → sum_by w (filtered_range p first n) + sum_by w
+    (filtered_range (λ j. not (p j)) first n) ≡ sum_by w (numbers_from first n)
 weight_parted w p first zero = refl
 weight_parted w p first (suc n) =
     let all = sum_by-cons w first (numbers_from (suc first) n) in
@@ -79,7 +79,7 @@ zeros_behind (v ∷ votes) n zero = refl
 zeros_behind (v ∷ votes) n (suc k) = zeros_behind votes n k
 
 -- the votes of a processor are at its place
-pub votes_at : (count : ℕ) (places : List ℕ) (group : Group) (k : ℕ) → IsFilled count places
+pub votes_at : (count : ℕ) (places : List ℕ) (group : Group) (k : ℕ) → IsPaddedVotes count places
     → (record { count = count; votes = take count places }) ≡ group → votes_of group (1 + k) ≡ slice_index places k
 votes_at count places group k is view =
     let place : 1 + k - 1 ≡ k = omega arith in
@@ -88,26 +88,26 @@ votes_at count places group k is view =
     ∙ ap (λ (all : List ℕ). slice_index all k) is.zeros)
 
 -- there are votes for each processor
-pub votes_few : (count : ℕ) (places : List ℕ) (group : Group) → IsFilled count places
+pub votes_few : (count : ℕ) (places : List ℕ) (group : Group) → IsPaddedVotes count places
     → (record { count = count; votes = take count places }) ≡ group → IsProc (length group.votes)
 votes_few count places group is view = subst (λ (g : Group). IsProc (length g.votes)) view (subst IsProc (sym is.whole) is.processors)
 
 -- all votes together are those of the members and those of the others
 pub split_votes : (group : Group) (set : ℕ) → IsProc (length group.votes) → votes_in group set + sum_by
-    (votes_of group) (passing (λ j. not (has set j)) 1 max_processors) ≡ sum group.votes
+    (votes_of group) (filtered_range (λ j. not (has set j)) 1 max_processors) ≡ sum group.votes
 unfolding elements
 split_votes group set proc =
     weight_parted (votes_of group) (has set) 1 max_processors ∙ (votes_front group max_processors ∙ ap sum (take_all max_processors group.votes proc.1))
 
 -- the votes of the members, place by place
-pub votes_inside : (group : Group) (set : ℕ) → sum_by (votes_of group) (passing (has set) 1 max_processors) ≡ votes_in group set
+pub votes_inside : (group : Group) (set : ℕ) → sum_by (votes_of group) (filtered_range (has set) 1 max_processors) ≡ votes_in group set
 unfolding elements
 votes_inside group set = refl
 
 -- the votes of members and of others, added place by place, are all votes
 pub votes_together : (group : Group) (set members others : ℕ) → IsProc (length group.votes)
-    → members ≡ sum_by (votes_of group) (passing (has set) 1 max_processors)
-    → others ≡ sum_by (votes_of group) (passing (λ j. not (has set j)) 1 max_processors)
+    → members ≡ sum_by (votes_of group) (filtered_range (has set) 1 max_processors)
+    → others ≡ sum_by (votes_of group) (filtered_range (λ j. not (has set j)) 1 max_processors)
     → members + others ≡ sum group.votes
 unfolding elements
 votes_together group set members others few m o = omega (arith, split_votes group set few, m, o)

@@ -12,7 +12,7 @@ use Rattle.std.proofs.lemmas.Nat.Bits.{bit_at-lt}
 use native.Mathlib.Nat.{pow-suc, div-div-eq-div-mul, div-one}
 use lib.Count.{ones_step, ones-le}
 use Rattle.ring_base.specs.Numbers.{numbers_from}
-use Rattle.ring_base.specs.Passing.{IsStrictlyIncreasing-numbers_from, passing, few, stands, place, before-at, passing_same, passing_before, passing_first}
+use Rattle.ring_base.specs.FilteredRanges.{IsStrictlyIncreasing-numbers_from, filtered_range, few, stands, place, before-at, passing_same, passing_before, passing_first}
 use Rattle.ring_base.specs.Processors.{IsProc, IsMember, max_processors, has, nobody, only, everybody, intersection, less, elements, size, at, position_of, smallest}
 use Rattle.ring_base.specs.Members.{has_member, member_had, only_members, everybody_members, intersection_members, less_members}
 
@@ -89,14 +89,14 @@ elements_members set i = (
 -- ---- the members in the code's terms
 
 -- the number of members is the number of ones in a word of 16 bits
-ones-passing : (set k n : ℕ) → set / 2 ^ k < 2 ^ n → length (passing (has set) (suc k) n) ≡ count_ones (set / 2 ^ k)
-ones-passing set k zero lt = let none = ones-le 0 (set / 2 ^ k) lt in omega arith
-ones-passing set k (suc n) lt =
+ones-filtered_range : (set k n : ℕ) → set / 2 ^ k < 2 ^ n → length (filtered_range (has set) (suc k) n) ≡ count_ones (set / 2 ^ k)
+ones-filtered_range set k zero lt = let none = ones-le 0 (set / 2 ^ k) lt in omega arith
+ones-filtered_range set k (suc n) lt =
     let place : suc k - 1 ≡ k = omega arith in
     let half : set / 2 ^ k / 2 ≡ set / 2 ^ suc k = rw (pow-suc, div-div-eq-div-mul) refl in
     let double = pow-suc 2 n in
     let small : set / 2 ^ suc k < 2 ^ n = rw (← half) (omega arith) in
-    let rest = ones-passing set (suc k) n small in
+    let rest = ones-filtered_range set (suc k) n small in
     let step = ones_step (set / 2 ^ k) in
     let others = ap count_ones half in
     let one = bit_at-lt set k in
@@ -110,7 +110,7 @@ pub size-ones : (set : ℕ) → set < 2 ^ 16 → size set ≡ count_ones set
 unfolding elements
 size-ones set lt =
     let whole : set / 2 ^ 0 ≡ set = div-one set in
-    subst (λ (x : ℕ). size set ≡ count_ones x) whole (ones-passing set 0 max_processors (rw whole lt))
+    subst (λ (x : ℕ). size set ≡ count_ones x) whole (ones-filtered_range set 0 max_processors (rw whole lt))
 
 -- the elements are the smallest member, then the elements of the set without it
 pub elements-first : (set : ℕ) → 0 < size set → elements set ≡ smallest set ∷ elements (less set (only (smallest set)))

@@ -40,11 +40,11 @@ abbrev pub PrimariesMeet : Type 0
 PrimariesMeet = (group : Group) (a b : ℕ) → IsPrimary group a → IsPrimary group b → (i : ℕ) × (i ≤ group.count) × IsMember a i × IsMember b i
 
 -- the votes, followed by zeros up to a length of 16
-abbrev pub filled : List ℕ → List ℕ
-filled votes = votes ++ replicate (max_processors - length votes) 0
+abbrev pub padded_votes : List ℕ → List ℕ
+padded_votes votes = votes ++ replicate (max_processors - length votes) 0
 
 -- the list of 16 has the votes of `count` processors, followed by zeros
-pub record IsFilled (count : ℕ) (places : List ℕ) : Type 0 where
+pub record IsPaddedVotes (count : ℕ) (places : List ℕ) : Type 0 where
   pub processors : IsProc count
   pub whole : length (take count places) ≡ count
-  pub zeros : filled (take count places) ≡ places
+  pub zeros : padded_votes (take count places) ≡ places

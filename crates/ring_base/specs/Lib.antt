@@ -2,10 +2,10 @@ pub mod Elements
 pub mod Fault
 pub mod Prefixes
 pub mod Group
-pub mod InLists
+pub mod ListMembership
 pub mod Members
 pub mod Numbers
-pub mod Passing
+pub mod FilteredRanges
 pub mod Primaries
 pub mod Processors
 pub mod RingOrder

@@ -20,8 +20,8 @@ abbrev pub visit_limit : ℕ
 visit_limit = 8
 
 -- the successor of a u64, which saturates at 2 ^ 64 - 1
-abbrev pub following : ℕ → ℕ
-following n = min (n + 1) (2 ^ 64 - 1)
+abbrev pub saturating_successor : ℕ → ℕ
+saturating_successor n = min (n + 1) (2 ^ 64 - 1)
 
 -- the `count` numbers from `first` on, ascending
 abbrev pub numbers_from : ℕ → ℕ → List ℕ
@@ -34,9 +34,9 @@ insert_ascending n [] = n ∷ []
 insert_ascending n (x ∷ xs) = if nat_lt n x then n ∷ x ∷ xs else if n == x then x ∷ xs else x ∷ insert_ascending n xs
 
 -- the union of two lists as an ascending list without repeats; the second list must ascend
-abbrev pub merged : List ℕ → List ℕ → List ℕ
-merged [] ys = ys
-merged (x ∷ xs) ys = insert_ascending x (merged xs ys)
+abbrev pub merged_ascending : List ℕ → List ℕ → List ℕ
+merged_ascending [] ys = ys
+merged_ascending (x ∷ xs) ys = insert_ascending x (merged_ascending xs ys)
 
 -- the greatest of the numbers, 0 for the empty list
 abbrev pub greatest : List ℕ → ℕ
@@ -48,6 +48,6 @@ abbrev pub has_bit : ℕ → ℕ → Bool
 has_bit word j = bit_at word j == 1
 
 -- the word of `count` bits whose bit j is the result of the test at first + j
-abbrev pub word_of : (ℕ → Bool) → ℕ → ℕ → ℕ
-word_of test first zero = 0
-word_of test first (suc count) = (if test first then 1 else 0) + 2 * word_of test (suc first) count
+abbrev pub word_from_test : (ℕ → Bool) → ℕ → ℕ → ℕ
+word_from_test test first zero = 0
+word_from_test test first (suc count) = (if test first then 1 else 0) + 2 * word_from_test test (suc first) count

@@ -8,15 +8,15 @@ use Rattle.std.proofs.lemmas.List.Sums.{sum_by-cons, sum_by-take-le}
 use Rattle.ring_base.specs.Numbers.{numbers_from}
 use Rattle.ring_base.specs.Processors.{max_processors, has, elements}
 use Rattle.ring_base.specs.Members.{member_had, within_members, everybody_members}
-use Rattle.ring_base.specs.Passing.{passing}
+use Rattle.ring_base.specs.FilteredRanges.{filtered_range}
 use Rattle.ring_base.specs.Group.{Group, votes_of, IsPrimary, is_primary, PrimariesMeet}
 
 -- the first number of a range adds its weight if it passes
-pub weight_more : (w : ℕ → ℕ) (p : ℕ → Bool) (first n : ℕ) → p first ≡ true → sum_by w (passing p first (suc n)) ≡ w first + sum_by w (passing p (suc first) n)
-weight_more w p first n pass = rw pass (sum_by-cons w first (passing p (suc first) n))
+pub weight_more : (w : ℕ → ℕ) (p : ℕ → Bool) (first n : ℕ) → p first ≡ true → sum_by w (filtered_range p first (suc n)) ≡ w first + sum_by w (filtered_range p (suc first) n)
+weight_more w p first n pass = rw pass (sum_by-cons w first (filtered_range p (suc first) n))
 
 -- the first number of a range adds nothing if it fails
-pub weight_same : (w : ℕ → ℕ) (p : ℕ → Bool) (first n : ℕ) → p first ≡ false → sum_by w (passing p first (suc n)) ≡ sum_by w (passing p (suc first) n)
+pub weight_same : (w : ℕ → ℕ) (p : ℕ → Bool) (first n : ℕ) → p first ≡ false → sum_by w (filtered_range p first (suc n)) ≡ sum_by w (filtered_range p (suc first) n)
 weight_same w p first n fail = rw fail refl
 
 -- a number, from `first` on, that passes both tests
@@ -30,8 +30,8 @@ later : (p q : ℕ → Bool) (first : ℕ) → Shared p q (suc first) → Shared
 later p q first s = record { number = s.number; low = omega (arith, s.low); passes_first = s.passes_first; passes_second = s.passes_second }
 
 -- if the numbers of a range that pass two tests together weigh more than the whole range, one number passes both
-shared : (w : ℕ → ℕ) (p q : ℕ → Bool) (first n : ℕ) → sum_by w (numbers_from first n) < sum_by w (passing p first n)
-    + sum_by w (passing q first n) → Shared p q first
+shared : (w : ℕ → ℕ) (p q : ℕ → Bool) (first n : ℕ) → sum_by w (numbers_from first n) < sum_by w (filtered_range p first n)
+    + sum_by w (filtered_range q first n) → Shared p q first
 shared w p q first zero more = absurd (omega arith)
 shared w p q first (suc n) more =
     let all = sum_by-cons w first (numbers_from (suc first) n) in

@@ -28,15 +28,15 @@ pub struct Fixed {
 
 impl Model for Fixed {
     ghost use Rattle.std.specs.Prelude.{take};
-    ghost use Rattle.ring_base.specs.Group.{Group, filled, IsFilled};
+    ghost use Rattle.ring_base.specs.Group.{Group, padded_votes, IsPaddedVotes};
 
     ghost Value = { Group };
 
     ghost view = { λ fixed. record { count = fixed.count; votes = take fixed.count fixed.votes } };
 
-    ghost invariant = { λ fixed. IsFilled fixed.count fixed.votes };
+    ghost invariant = { λ fixed. IsPaddedVotes fixed.count fixed.votes };
 
-    ghost inverse = { λ group. record { count = group.count; votes = filled group.votes } };
+    ghost inverse = { λ group. record { count = group.count; votes = padded_votes group.votes } };
 
     ghost inverse_ok = { λ a h. Prim.rw h.zeros (λ i. a) };
 }

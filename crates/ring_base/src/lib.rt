@@ -7,29 +7,29 @@
 mod fault;
 mod fixed;
 mod ghost_value;
-mod kind;
-mod laws;
+mod last_primary_order;
 mod limits;
 mod members;
-mod pair;
-mod primary;
+mod pair_with_result;
 mod proc_set;
 mod processor;
 mod ring_id;
+mod set_and_order_laws;
 mod state;
+mod timeout_kind;
 
 pub use fault::Fault;
 pub use fixed::Fixed;
 pub use ghost_value::{Ghost, ghost_now, ghost_of, ghost_step, ghost_step_of_two};
-pub use kind::Kind;
-pub use laws::{
-    limits_law, members_law, prefix_law, primary_law, primary_order_law, ring_order_law,
-};
+pub use last_primary_order::is_primary_below;
 pub use limits::{MAX, MAX_FRAME_BYTES, MAX_PROCESSORS, PROCESSORS, VISIT_LIMIT, WINDOW_SIZE};
 pub use members::Members;
-pub use pair::pair_result;
-pub use primary::is_primary_below;
+pub use pair_with_result::pair_result;
 pub use proc_set::ProcSet;
 pub use processor::Proc;
 pub use ring_id::RingId;
+pub use set_and_order_laws::{
+    limits_law, members_law, prefix_law, primary_law, primary_order_law, ring_order_law,
+};
 pub use state::State;
+pub use timeout_kind::Kind;

@@ -39,7 +39,7 @@ impl Iterator for Members {
 
     fn next(&mut self) -> Option<Proc> {
         let first = self.unvisited.smallest()?;
-        self.unvisited = self.unvisited.less(ProcSet::only(first));
+        self.unvisited = self.unvisited.without_members(ProcSet::singleton(first));
         Some(first)
     }
 }

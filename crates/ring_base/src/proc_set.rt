@@ -42,7 +42,7 @@ impl ProcSet {
     /// Returns the set that contains only `proc`.
     ///
     /// Rules: Processors and sets 3
-    pub fn only(proc: Proc) -> ProcSet
+    pub fn singleton(proc: Proc) -> ProcSet
         ensures members { (i : ℕ) → IsMember result i ↔ (i ≡ proc) }
         ensures value { result ≡ only proc }
     {
@@ -135,7 +135,7 @@ impl ProcSet {
     /// In a set of one it is `proc` itself. `proc` must be a member.
     ///
     /// Rules: Rings and states 2
-    pub fn next(self, proc: Proc) -> Proc
+    pub fn next_cyclic(self, proc: Proc) -> Proc
         requires { IsMember self proc }
         ensures value { result ≡ next self proc }
         ensures member { IsMember self result }
@@ -178,7 +178,7 @@ impl ProcSet {
         ensures added { IsTrue result ↔ ¬ IsMember self.old proc }
     {
         let is_new = !self.contains(proc);
-        *self = self.union(ProcSet::only(proc));
+        *self = self.union(ProcSet::singleton(proc));
         is_new
     }
 
@@ -209,7 +209,7 @@ impl ProcSet {
     /// Returns the difference: the members of this set that aren't members of `other`.
     ///
     /// Rules: Processors and sets 3
-    pub fn less(self, other: ProcSet) -> ProcSet
+    pub fn without_members(self, other: ProcSet) -> ProcSet
         ensures members { (i : ℕ) → IsMember result i ↔ (IsMember self i × ¬ IsMember other i) }
         ensures value { result ≡ less self other }
     {
@@ -225,8 +225,8 @@ impl ProcSet {
 impl Display for ProcSet {
     fn fmt<W: fmt::Write>(&self, f: &mut fmt::Formatter<W>) -> fmt::Result {
         let mut separator = "";
-        for before in 0..MAX_PROCESSORS {
-            let node = Proc::new(before + 1);
+        for preceding_number in 0..MAX_PROCESSORS {
+            let node = Proc::new(preceding_number + 1);
             if self.contains(node) {
                 write!(f, "{separator}{node}")?;
                 separator = ",";

@@ -7,16 +7,16 @@ use Rattle.std.proofs.lemmas.Bool.Decides.{nat_tests}
 use Rattle.rtrb.specs.Ring.{sent, received, known_items, known_free, IsPair, producer_capacity, SameProducer, SameConsumer}
 use mathlib.Core.List.{IsPrefix}
 use Rattle.ring_session.specs.declared.answer.Answer.{Answer}
-use Rattle.ring_book_lines.specs.Answers.{answer_in, answer_of_ticket, answers_after_step, answers_after_steps, answers_of_node}
+use Rattle.ring_book_lines.specs.Answers.{first_answer_in, answer_of_ticket, answers_after_step, answers_after_steps, answers_of_node}
 use Rattle.ring_book.specs.Books.{max_places, IsBook, IsReadingEnd, HasNodeAnswers, ReadingEnd}
 use Rattle.ring_book.specs.AnswerIndex.{AnswerIndexView, IsRoomier, AreRoomier}
 use Rattle.ring_book.specs.Cells.{IsCell, AllOf}
-use Rattle.ring_book.specs.Ends.{Name, Ring, ring_of_producer, ring_of_consumer}
+use Rattle.ring_book.specs.JournalEnds.{Name, Ring, ring_of_producer, ring_of_consumer}
 use Rattle.ring_book_lines.specs.Lines.{steps_of, IsDeliverable}
 use Rattle.ring_book_lines.specs.Machines.{Machine}
 use Rattle.ring_book_lines.specs.Logs.{LogView, log_extended, log_after_step}
 use Rattle.ring_book.specs.Openings.{Writer}
-use Rattle.ring_book_lines.specs.Runs.{Leads, IsInside, IsBookRun, AreDeliverable}
+use Rattle.ring_book_lines.specs.Runs.{LeadsToState, IsInside, IsBookRun, AreDeliverable}
 use Rattle.ring_book_lines.specs.Steps.{StepView, LineView}
 use Rattle.ring_book.proofs.Journaling.{AllOf-last, ring_stays}
 use Rattle.ring_book_lines.proofs.Leading.{steps_of-own, steps_of-other, steps_of-skip}
@@ -67,7 +67,7 @@ AreDeliverable-snoc before (x ∷ ls) l h f =
 
 -- a run with one more line: its node's journal ends with its step
 pub run_adds : {S A : Type 0} (m : Machine S A) (n : ℕ) (ls : List (LineView A)) (l : LineView A) (me : ℕ) (t : S)
-    → IsBookRun m n ls → l.step.node ≡ me → 1 ≤ me → me ≤ n → Leads m (m.opening me) (steps_of me ls ++ l.step ∷ []) t → IsDeliverable ls l.step.node l.step.input
+    → IsBookRun m n ls → l.step.node ≡ me → 1 ≤ me → me ≤ n → LeadsToState m (m.opening me) (steps_of me ls ++ l.step ∷ []) t → IsDeliverable ls l.step.node l.step.input
     → IsBookRun m n (ls ++ l ∷ [])
 run_adds {S} {A} m n ls l me t r mine low high leads found = record {
   nodes = λ i h k. same_or_other i h k (l.step.node == i) refl;
@@ -75,11 +75,11 @@ run_adds {S} {A} m n ls l me t r mine low high leads found = record {
   found = AreDeliverable-snoc [] ls l r.found found;
 }
   where
-    same_or_other : (i : ℕ) → 1 ≤ i → i ≤ n → (b : Bool) → (l.step.node == i) ≡ b → (t : S) × Leads m (m.opening i) (steps_of i (ls ++ l ∷ [])) t
+    same_or_other : (i : ℕ) → 1 ≤ i → i ≤ n → (b : Bool) → (l.step.node == i) ≡ b → (t : S) × LeadsToState m (m.opening i) (steps_of i (ls ++ l ∷ [])) t
     same_or_other i h k true e =
         let same : me ≡ i = grind (arith, nat_tests) in
         let own : l.step.node ≡ i = mine ∙ same in
-        (t, rw (steps_of-own i ls l own) (subst (λ (j : ℕ). Leads m (m.opening j) (steps_of j ls ++ l.step ∷ []) t) same leads))
+        (t, rw (steps_of-own i ls l own) (subst (λ (j : ℕ). LeadsToState m (m.opening j) (steps_of j ls ++ l.step ∷ []) t) same leads))
     same_or_other i h k false e = rw (steps_of-other i ls l e) (r.nodes i h k)
 
 -- the ends of one ring, once the reader has looked beside the writer
@@ -149,8 +149,8 @@ book_enters {S} {A} m name lines reserved ends answer_indexes log capacity place
     room is b k at there answers same text look journal pop found some =
     let l : LineView A = record { number = length lines; step = x } in
     let mine : x.node ≡ me = AllOf-last me (steps_of me lines) x (subst (AllOf me) journal k.mine) in
-    let leads : Leads m (m.opening me) (steps_of me lines ++ x ∷ []) node =
-    subst (λ (js : List (StepView A)). Leads m (m.opening me) js node) journal k.leads in
+    let leads : LeadsToState m (m.opening me) (steps_of me lines ++ x ∷ []) node =
+    subst (λ (js : List (StepView A)). LeadsToState m (m.opening me) js node) journal k.leads in
     record {
       few = b.few;
       count = rw length-set b.count;
@@ -381,13 +381,13 @@ none_past n node (l ∷ ls) past h =
 
 -- the stored answer of a node's ticket
 pub told_answers : {A : Type 0} (lines : List (LineView A)) (reserved i node ticket : ℕ) (t : AnswerIndexView) → HasNodeAnswers lines reserved i t → i ≡ node - 1 → 1 ≤ node
-    → answer_of_ticket t.answers ticket ≡ answer_in lines node ticket
+    → answer_of_ticket t.answers ticket ≡ first_answer_in lines node ticket
 told_answers lines reserved i node ticket t is at low =
     let same : suc i ≡ node = omega (arith, at, low) in
     ap (λ (answers : List (Option Answer)). answer_of_ticket answers ticket) is.told_is ∙ ap (λ (n : ℕ). answer_of_ticket (answers_of_node n lines) ticket) same
 
 -- a node outside the group has no answer
-pub none_answers : {A : Type 0} (n node ticket : ℕ) (ls : List (LineView A)) → n < node → Each (IsInside n) ls → None ≡ answer_in ls node ticket
+pub none_answers : {A : Type 0} (n node ticket : ℕ) (ls : List (LineView A)) → n < node → Each (IsInside n) ls → None ≡ first_answer_in ls node ticket
 none_answers {A} n node ticket ls past h = sym (ap (λ (ss : List (StepView A)). answer_of_ticket (answers_after_steps [] ss) ticket) (none_past n node ls past h))
 
 -- the stored answers of a node, and those of a node outside the group

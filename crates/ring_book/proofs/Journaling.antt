@@ -2,12 +2,12 @@
 use Rattle.std.proofs.Common.{◌≡◌, ℕ, ◌≤◌, ◌++◌, List, [], ◌∷◌, ◌∙◌, Bool, true, false}
 use Rattle.rtrb.specs.Ring.{sent, SameProducer}
 use Rattle.ring_book.specs.Cells.{IsCell, AllOf}
-use Rattle.ring_book.specs.Ends.{Name, ring_of_producer}
+use Rattle.ring_book.specs.JournalEnds.{Name, ring_of_producer}
 use Rattle.ring_book_lines.specs.Machines.{Machine}
 use Rattle.ring_book.specs.Openings.{Writer}
 use Rattle.ring_book_lines.specs.Runs.{IsStep}
 use Rattle.ring_book_lines.specs.Steps.{StepView}
-use Rattle.ring_book_lines.proofs.Leading.{Leads-snoc}
+use Rattle.ring_book_lines.proofs.Leading.{LeadsToState-snoc}
 use Rattle.ring_base.specs.Numbers.{max_frame_bytes}
 
 pub ring_stays : {A : Type 0} (p q : Writer A) → SameProducer p q → ring_of_producer q ≡ ring_of_producer p
@@ -30,7 +30,7 @@ cell_adds m IsSound name me ahead node node' p q space space' l k mine step soun
   counted = k.counted;
   in_book = k.in_book;
   ring = rw (ring_stays p q same) k.ring;
-  leads = rw e (Leads-snoc m (m.opening me) (sent p) node node' l k.leads step);
+  leads = rw e (LeadsToState-snoc m (m.opening me) (sent p) node node' l k.leads step);
   mine = rw e (AllOf-snoc me (sent p) l k.mine mine);
   free = λ f. cc;
   room = same.1 ∙ k.room;

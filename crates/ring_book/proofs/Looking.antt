@@ -9,7 +9,7 @@ use Rattle.ring_book_lines.specs.Machines.{Machine}
 use Rattle.ring_book_lines.specs.Steps.{StepView, LineView}
 use Rattle.ring_book.specs.Books.{IsBook, IsReadingEnd, ReadingEnd}
 use Rattle.ring_book.specs.Cells.{IsCell}
-use Rattle.ring_book.specs.Ends.{Name}
+use Rattle.ring_book.specs.JournalEnds.{Name}
 use Rattle.ring_book.specs.Openings.{Writer}
 use Rattle.ring_book.specs.AnswerIndex.{AnswerIndexView}
 use Rattle.ring_book.proofs.Entering.{Looked, one_left, first_same}

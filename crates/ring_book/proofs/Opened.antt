@@ -8,7 +8,7 @@ use Rattle.ring_book_lines.specs.Logs.{empty_log}
 use Rattle.ring_book.specs.Books.{ReadingEnd, IsBook}
 use Rattle.ring_book.specs.AnswerIndex.{AnswerIndexView}
 use Rattle.ring_book.specs.Cells.{IsCell}
-use Rattle.ring_book.specs.Ends.{Name, Ring, ring_of_producer, ring_of_consumer}
+use Rattle.ring_book.specs.JournalEnds.{Name, Ring, ring_of_producer, ring_of_consumer}
 use Rattle.ring_book_lines.specs.Machines.{Machine}
 use Rattle.ring_book.specs.Openings.{Writer, IsStart, IsStartEnd, AllStart, AllStartEnds, rings_of}
 use Rattle.ring_base.specs.Numbers.{max_frame_bytes}

@@ -5,12 +5,12 @@ use Rattle.rtrb.specs.declared.consumer.Consumer.{Consumer}
 use Rattle.rtrb.specs.declared.AnyItems.{AnyItems}
 use Rattle.rtrb.specs.Ring.{received, consumer_capacity}
 use Rattle.ring_book_lines.specs.Answers.{answers_of_node}
-use Rattle.ring_book.specs.Ends.{Name, ring_of_consumer}
+use Rattle.ring_book.specs.JournalEnds.{Name, ring_of_consumer}
 use Rattle.ring_book_lines.specs.Lines.{steps_of, IsDeliverable}
 use Rattle.ring_book_lines.specs.Machines.{Machine}
 use Rattle.ring_book_lines.specs.Logs.{LogView, log_of_lines}
 use Rattle.ring_book_lines.specs.Runs.{IsBookRun}
-use Rattle.ring_book.specs.Seen.{CellView, BookView}
+use Rattle.ring_book.specs.BookViews.{CellView, BookView}
 use Rattle.ring_book.specs.AnswerIndex.{AnswerIndexView}
 use Rattle.ring_book_lines.specs.Steps.{StepView, LineView}
 use Rattle.ring_base.specs.Numbers.{max_frame_bytes}

@@ -11,10 +11,10 @@ use Rattle.ring_node_spec.specs.declared.input.Input.TheVariants.{Stop}
 use Rattle.ring_book_lines.specs.declared.frame_ref.FrameRef.{FrameRef}
 use Rattle.ring_book_lines.specs.declared.input.LineInput.{LineInput}
 use Rattle.ring_book_lines.specs.declared.input.LineInput.TheVariants.{Received}
-use Rattle.ring_book.specs.Ends.{Name, ring_of_producer}
+use Rattle.ring_book.specs.JournalEnds.{Name, ring_of_producer}
 use Rattle.ring_book_lines.specs.Machines.{Machine}
-use Rattle.ring_book_lines.specs.Runs.{Leads, IsStep}
-use Rattle.ring_book.specs.Seen.{CellView}
+use Rattle.ring_book_lines.specs.Runs.{LeadsToState, IsStep}
+use Rattle.ring_book.specs.BookViews.{CellView}
 use Rattle.ring_book_lines.specs.Steps.{StepView}
 use Rattle.ring_base.specs.Numbers.{max_frame_bytes}
 
@@ -36,7 +36,7 @@ module _ {S A : Type 0} (m : Machine S A) where
     pub counted : 1 ≤ me
     pub in_book : me ≤ name.group.count
     pub ring : slice_get name.rings (me - 1) ≡ Some (ring_of_producer journal)
-    pub leads : Leads m (m.opening me) (sent journal) node
+    pub leads : LeadsToState m (m.opening me) (sent journal) node
     pub mine : AllOf me (sent journal)
     pub free : ahead ≡ false → 0 < known_free journal
     pub room : producer_capacity journal ≡ 1

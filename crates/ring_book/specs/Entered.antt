@@ -6,7 +6,7 @@ use Rattle.ring_base.specs.declared.fault.Fault.{Fault}
 use Rattle.ring_base.specs.declared.fault.Fault.TheVariants.{Stranger}
 use Rattle.ring_book.specs.Books.{HasEntered, IsStrange}
 use Rattle.ring_book_lines.specs.Steps.{LineView}
-use Rattle.ring_book.specs.Seen.{CellView, BookView}
+use Rattle.ring_book.specs.BookViews.{CellView, BookView}
 
 -- at Ok the step was added at the end and its line is borrowed; at Stranger book and cell are unchanged
 abbrev pub IsEnterResult : {S A : Type 0} → BookView A → BookView A → CellView S A → CellView S A → Result (Bor (LineView A)) Fault → Type 0

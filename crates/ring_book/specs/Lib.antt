@@ -1,5 +1,5 @@
-pub mod Ends
-pub mod Seen
+pub mod JournalEnds
+pub mod BookViews
 pub mod AnswerIndex
 pub mod Cells
 pub mod Books

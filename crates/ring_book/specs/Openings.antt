@@ -5,9 +5,9 @@ use Rattle.rtrb.specs.declared.producer.Producer.{Producer}
 use Rattle.rtrb.specs.declared.AnyItems.{AnyItems}
 use Rattle.rtrb.specs.Ring.{sent, known_free, producer_capacity, received, consumer_capacity}
 use Rattle.ring_book.specs.Books.{ReadingEnd}
-use Rattle.ring_book.specs.Ends.{Ring, ring_of_producer, ring_of_consumer}
+use Rattle.ring_book.specs.JournalEnds.{Ring, ring_of_producer, ring_of_consumer}
 use Rattle.ring_book_lines.specs.Machines.{Machine}
-use Rattle.ring_book.specs.Seen.{CellView, BookView}
+use Rattle.ring_book.specs.BookViews.{CellView, BookView}
 use Rattle.ring_book_lines.specs.Steps.{StepView}
 
 -- the writing end of a journal; each cell has one

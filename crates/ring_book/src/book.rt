@@ -13,14 +13,14 @@ ghost use Rattle.ring_book_lines.specs.Lines.{HasBytesAt};
 
 use crate::PLACES;
 use crate::answer_indexes::AnswerIndex;
+use crate::book_name::BookName;
 use crate::cell::Cell;
-use crate::name::BookName;
 use bytes::BytesMut;
 use ring_base::{Fault, Proc};
-use ring_book_lines::laws::lines_law;
+use ring_book_lines::book_run_laws::book_run_law;
 use ring_book_lines::{
-    FrameRef, Line, LogSegment, Step, extend_log, has_bytes_at, history, is_deliverable,
-    linear_law, order,
+    FrameRef, Line, LogSegment, Step, extend_longest_log, has_bytes_at, history_of_lines,
+    is_deliverable, linear_law, order_of_segments,
 };
 use ring_node_spec::Item;
 use ring_object::Object;
@@ -49,14 +49,14 @@ pub struct Place {
 pub struct Book<O: Object, K: BookName<O::Alloc>> {
     lines: Vec<Line<O::Alloc>, O::Alloc>,
     reserved: u32,
-    ends: Vec<Consumer<Step<O::Alloc>, O::Alloc>, O::Alloc>,
+    journal_ends: Vec<Consumer<Step<O::Alloc>, O::Alloc>, O::Alloc>,
     /// The answers of each node's tickets.
     answer_indexes: Vec<AnswerIndex<O::Alloc>, O::Alloc>,
     /// The length of the longest committed log, in places, and the segments of lines that make it up.
-    total: usize,
+    longest_log_len: usize,
     segments: Vec<LogSegment, O::Alloc>,
     /// A scratch buffer for encoding a frame.
-    text: BytesMut<O::Alloc>,
+    frame_buffer: BytesMut<O::Alloc>,
     of: PhantomData<(O, K)>,
 }
 
@@ -64,15 +64,15 @@ impl<O: Object, K: BookName<O::Alloc>> Model for Book<O, K> {
     ghost use Rattle.std.specs.Prelude.{◌+◌, length, vec_capacity};
     ghost use Rattle.ring_book.specs.Books.{IsBook};
     ghost use Rattle.ring_book_lines.specs.Machines.{node_machine};
-    ghost use Rattle.ring_book.specs.Seen.{BookView};
+    ghost use Rattle.ring_book.specs.BookViews.{BookView};
 
     ghost Value = { BookView O.Alloc };
 
     ghost view = { λ b. record { lines = b.lines.items; reserved = b.reserved } };
 
     ghost invariant = { λ b. IsBook (node_machine O.sequential K.name.group) K.name b.lines.items b.reserved
-        b.ends.items b.answer_indexes.items (record { total = b.total; segments = b.segments.items }) (vec_capacity b.lines)
-        (vec_capacity b.segments) (length b.text.items + b.text.spare) };
+        b.journal_ends.items b.answer_indexes.items (record { total = b.longest_log_len; segments = b.segments.items }) (vec_capacity b.lines)
+        (vec_capacity b.segments) (length b.frame_buffer.items + b.frame_buffer.spare) };
 }
 
 impl<O: Object, K: BookName<O::Alloc>> Book<O, K> {
@@ -80,7 +80,7 @@ impl<O: Object, K: BookName<O::Alloc>> Book<O, K> {
     ghost use mathlib.Core.Option.{none};
     ghost use denote.Follow.{follows_so};
     ghost use Rattle.ring_book.specs.contracts.book.Book.{the_row};
-    ghost use Rattle.ring_book_lines.specs.Answers.{answer_in, answers_of_node};
+    ghost use Rattle.ring_book_lines.specs.Answers.{first_answer_in, answers_of_node};
     ghost use Rattle.ring_book.specs.Books.{max_places, HasEntered, IsStrange, IsBook};
     ghost use Rattle.ring_book.specs.Entered.{IsEnterResult};
     ghost use Rattle.ring_book_lines.specs.Events.{IsRun, events_of, history_of};
@@ -89,7 +89,7 @@ impl<O: Object, K: BookName<O::Alloc>> Book<O, K> {
     ghost use Rattle.ring_order_proof.specs.Linear.{HasCommittedPlaces, FollowsOrder};
     ghost use Rattle.ring_book_lines.specs.Logs.{committed_calls_of};
     ghost use Rattle.ring_book_lines.specs.Lines.{sent_at, steps_of};
-    ghost use Rattle.ring_book_lines.specs.Puts.{IsPut};
+    ghost use Rattle.ring_book_lines.specs.AppendedFrames.{IsPut};
     ghost use Rattle.ring_book_lines.specs.Steps.{LineView};
     ghost use Rattle.ring_book_lines.specs.Machines.{node_machine};
     ghost use Rattle.ring_book.specs.Openings.{empty_book};
@@ -114,11 +114,11 @@ impl<O: Object, K: BookName<O::Alloc>> Book<O, K> {
         Book {
             lines: Vec::new(alloc),
             reserved: 0,
-            ends,
+            journal_ends: ends,
             answer_indexes,
-            total: 0,
+            longest_log_len: 0,
             segments: Vec::new(alloc),
-            text,
+            frame_buffer: text,
             of: PhantomData,
         }
     }
@@ -137,7 +137,7 @@ impl<O: Object, K: BookName<O::Alloc>> Book<O, K> {
         ensures few { K.name.group.count ≤ 16 }
     {
         // A law: no effect at run time. The proof takes from it that such lines are a run of the group.
-        lines_law::<O>();
+        book_run_law::<O>();
         // No effect at run time. The proof sees the invariant of `Book` only where the body reads a field.
         let _lines = &self.lines;
     }
@@ -150,7 +150,7 @@ impl<O: Object, K: BookName<O::Alloc>> Book<O, K> {
     /// the book's order, and the committed calls that it keeps, with repeats removed, come next in that order.
     ///
     /// Rules: Sessions 11; The book and the threads 18
-    pub fn node_law(&self, cell: &Cell<O, K>)
+    pub fn cell_follows_book_law(&self, cell: &Cell<O, K>)
         ensures member { (1 ≤ cell.now.me) × (cell.now.me ≤ K.name.group.count) }
         ensures node { cell.now.journal ≡ steps_of cell.now.me self.now.lines →
             cell.now.node ≡ (run O.sequential (world_opening K.name.group) (events_of self.now.lines)).nodes cell.now.me }
@@ -163,7 +163,7 @@ impl<O: Object, K: BookName<O::Alloc>> Book<O, K> {
     {
         // Laws: no effect at run time. The proof takes from them that such lines are a run of the group, and how a
         // node's committed log and its snapshot relate to the run's order.
-        lines_law::<O>();
+        book_run_law::<O>();
         linear_law::<O>();
         // No effect at run time. The proof sees the invariants of the book and of the cell only where the body reads
         // fields.
@@ -234,7 +234,13 @@ impl<O: Object, K: BookName<O::Alloc>> Book<O, K> {
         ensures ok { IsOk result ↔ HasBytesAt self.old.lines at node bytes.now }
         ensures err { IfErr result (λ e. e ≡ Stranger) }
     {
-        if has_bytes_at(self.lines.as_slice(), at, node, bytes, &mut self.text) {
+        if has_bytes_at(
+            self.lines.as_slice(),
+            at,
+            node,
+            bytes,
+            &mut self.frame_buffer,
+        ) {
             Ok(())
         } else {
             Err(Fault::Stranger)
@@ -247,7 +253,7 @@ impl<O: Object, K: BookName<O::Alloc>> Book<O, K> {
     ///
     /// Rules: The book and the threads 15
     pub fn answer(&self, node: Proc, ticket: Ticket) -> Option<Answer>
-        ensures { result ≡ answer_in self.now.lines node ticket }
+        ensures { result ≡ first_answer_in self.now.lines node ticket }
     {
         match answer_index_of(self.answer_indexes.as_slice(), node) {
             Some(answer_indexes) => answer_indexes.answer(ticket),
@@ -278,7 +284,7 @@ impl<O: Object, K: BookName<O::Alloc>> Book<O, K> {
         ensures ok { IfOk result (λ items. items.items ≡ history_of self.now.lines) }
         ensures refused { IfErr result (λ e. e ≡ Memory) }
     {
-        history(*self.lines.allocator(), self.lines.as_slice())
+        history_of_lines(*self.lines.allocator(), self.lines.as_slice())
     }
 
     /// Returns the order of the list's run: copies of the calls that take effect in the longest committed log of all
@@ -294,8 +300,8 @@ impl<O: Object, K: BookName<O::Alloc>> Book<O, K> {
         ensures refused { IfErr result (λ fault. fault ≡ Memory) }
     {
         // A law: no effect at run time. The proof takes from it that such lines are a run of the group.
-        lines_law::<O>();
-        order(
+        book_run_law::<O>();
+        order_of_segments(
             *self.lines.allocator(),
             self.lines.as_slice(),
             self.segments.as_slice(),
@@ -322,13 +328,13 @@ impl<O: Object, K: BookName<O::Alloc>> Book<O, K> {
         ensures { IsPut (sent_at self.now.lines at) out.old.items out.new.items result }
     {
         match self.line(at.line) {
-            Some(line) => line.frames().put(at.place, out),
+            Some(line) => line.frames().append_encoding(at.place, out),
             None => Err(Fault::Stranger),
         }
     }
 
     /// Enters the cell's step, as `enter` does.
-    fn enter_step(&mut self, cell: &mut Cell<O, K>) -> Result<(), Fault>
+    fn append_step_of_cell(&mut self, cell: &mut Cell<O, K>) -> Result<(), Fault>
         ensures { MatchResult result
             (λ _. HasEntered self.old self.new cell.old cell.new)
             (λ e. (e ≡ Stranger) × (self.new ≡ self.old) × (cell.new ≡ cell.old) × IsStrange self.old cell.old) }
@@ -337,28 +343,32 @@ impl<O: Object, K: BookName<O::Alloc>> Book<O, K> {
             return Err(Fault::Stranger);
         }
         let at = cell.me.number() as usize - 1;
-        let end = &mut self.ends[at];
+        let end = &mut self.journal_ends[at];
         if end.slots_beside(&mut cell.journal) == 0 {
             return Err(Fault::Stranger);
         }
-        if !is_deliverable(self.lines.as_slice(), end.peek_known(), &mut self.text) {
+        if !is_deliverable(
+            self.lines.as_slice(),
+            end.peek_known(),
+            &mut self.frame_buffer,
+        ) {
             return Err(Fault::Stranger);
         }
         let step = end.pop_known();
         cell.journal.slots_beside(end);
         self.answer_indexes[at].add_answers(&step);
         let number = self.lines.len() as u32;
-        extend_log(&mut self.total, &mut self.segments, number, &step);
+        extend_longest_log(&mut self.longest_log_len, &mut self.segments, number, &step);
         self.lines.push_reserved(Line::new(number, step));
         self.reserved -= 1;
-        cell.ahead = false;
+        cell.is_step_unentered = false;
         Ok(())
     }
 
     /// Returns the last line.
     ///
     /// There must be one.
-    fn last(&self) -> &Line<O::Alloc>
+    fn last_line_of_book(&self) -> &Line<O::Alloc>
         requires { 0 < length self.now.lines }
         ensures { slice_get self.now.lines (length self.now.lines - 1) ≡ Some result.now }
     {
@@ -379,8 +389,8 @@ impl<O: Object, K: BookName<O::Alloc>> Book<O, K> {
             (the_row O.row K.row O.Alloc.row O.Object O.Alloc.Allocator K.BookName) self.entry.ghost_name none
             (λ _ _. ⊤) (λ n. IsEnterResult self.old n cell.old cell.new result)) }
     {
-        self.enter_step(cell)?;
-        Ok(self.last())
+        self.append_step_of_cell(cell)?;
+        Ok(self.last_line_of_book())
     }
 }
 

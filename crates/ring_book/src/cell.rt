@@ -5,7 +5,7 @@
 ghost use Rattle.std.specs.Prelude.{◌≡◌, ◌+◌, ◌≤◌, length, OnErr, MatchResult};
 ghost use Rattle.std.specs.List.{AllByRecursion};
 ghost use Rattle.ring_book_lines.specs.Runs.{LineFits};
-ghost use Rattle.ring_book_lines.specs.Kept.{line_input};
+ghost use Rattle.ring_book_lines.specs.StoredSteps.{line_input};
 ghost use Rattle.ring_book_lines.specs.declared.input.LineInput.TheVariants.{Submitted, Received};
 ghost use Rattle.ring_node_spec.specs.NodeLimits.{InputFits};
 ghost use Rattle.ring_payload.specs.Calls.{CallFits};
@@ -13,11 +13,12 @@ ghost use Rattle.ring_wire.specs.Frames.{FrameFits, encoding_of};
 ghost use Rattle.ring_node_spec.specs.declared.input.Input.TheVariants.{Frame as Comes};
 ghost use Rattle.ring_base.specs.Numbers.{max_frame_bytes};
 
-use crate::name::BookName;
+use crate::book_name::BookName;
 use bytes::BytesMut;
 use ring_base::{Fault, Proc};
 use ring_book_lines::{
-    FrameRef, Frames, LineInput, ReceivedFrame, Step, StepInput, call_keeps_law, node_fits_law,
+    FrameRef, LineFrames, LineInput, ReceivedFrame, Step, StepInput, call_fits_snapshot_law,
+    node_fits_law,
 };
 use ring_node::{Node, Outs};
 use ring_node_spec::Input;
@@ -39,7 +40,7 @@ pub struct Cell<O: Object, K: BookName<O::Alloc>> {
     /// The processor of the node.
     pub(crate) me: Proc,
     /// Whether the journal's last step hasn't been entered in the book yet.
-    pub(crate) ahead: bool,
+    pub(crate) is_step_unentered: bool,
     /// The node, as its last step or submit left it.
     pub(crate) node: Node<O>,
     /// The sending end of the node's journal.
@@ -48,7 +49,7 @@ pub struct Cell<O: Object, K: BookName<O::Alloc>> {
     pub(crate) alloc: O::Alloc,
     /// A scratch buffer for encoding a frame.
     pub(crate) text: BytesMut<O::Alloc>,
-    pub(crate) of: PhantomData<K>,
+    pub(crate) book_name: PhantomData<K>,
 }
 
 impl<O: Object, K: BookName<O::Alloc>> Model for Cell<O, K> {
@@ -58,13 +59,13 @@ impl<O: Object, K: BookName<O::Alloc>> Model for Cell<O, K> {
     ghost use Rattle.ring_node_spec.specs.Nodes.{Node as ToldNode};
     ghost use Rattle.ring_book.specs.Cells.{IsCell};
     ghost use Rattle.ring_book_lines.specs.Machines.{node_machine};
-    ghost use Rattle.ring_book.specs.Seen.{CellView};
+    ghost use Rattle.ring_book.specs.BookViews.{CellView};
 
     ghost Value = { CellView (ToldNode O.Alloc) O.Alloc };
 
-    ghost view = { λ c. record { me = c.me; ahead = c.ahead; node = c.node; journal = sent c.journal } };
+    ghost view = { λ c. record { me = c.me; ahead = c.is_step_unentered; node = c.node; journal = sent c.journal } };
 
-    ghost invariant = { λ c. IsCell (node_machine O.sequential K.name.group) NodeFits K.name c.me c.ahead c.node
+    ghost invariant = { λ c. IsCell (node_machine O.sequential K.name.group) NodeFits K.name c.me c.is_step_unentered c.node
         c.journal (length c.text.items + c.text.spare) };
 }
 
@@ -106,7 +107,7 @@ impl<O: Object, K: BookName<O::Alloc>> Cell<O, K> {
         ensures { let m = node_machine O.sequential K.name.group in
             MatchResult result (λ _. HasJournaled m self.old self.new (Received input at)) (StepRefused m self.old self.new input at) }
     {
-        if self.ahead {
+        if self.is_step_unentered {
             // By name, so that no value is live at the exit.
             drop(input);
             return Err(Fault::Stranger);
@@ -118,7 +119,7 @@ impl<O: Object, K: BookName<O::Alloc>> Cell<O, K> {
         match self.node.step_into(&input, &mut outs) {
             Ok(()) => {
                 let places = self.node.committed_len() as usize;
-                self.journal.push_reserved(step_of(
+                self.journal.push_reserved(step_with_outputs(
                     self.alloc,
                     self.me,
                     StepInput::Full(LineInput::Received(input, at)),
@@ -126,7 +127,7 @@ impl<O: Object, K: BookName<O::Alloc>> Cell<O, K> {
                     places,
                     &mut self.text,
                 ));
-                self.ahead = true;
+                self.is_step_unentered = true;
                 Ok(())
             }
             Err(fault) => {
@@ -136,9 +137,9 @@ impl<O: Object, K: BookName<O::Alloc>> Cell<O, K> {
                 match fault {
                     Fault::Memory => {
                         let committed = self.node.committed_len() as usize;
-                        let stop = Step::stop(self.alloc, self.me, at, committed);
+                        let stop = Step::stop_of_node(self.alloc, self.me, at, committed);
                         self.journal.push_reserved(stop);
-                        self.ahead = true;
+                        self.is_step_unentered = true;
                         Err(Fault::Memory)
                     }
                     _ => Err(fault),
@@ -167,7 +168,7 @@ impl<O: Object, K: BookName<O::Alloc>> Cell<O, K> {
         ensures { let m = node_machine O.sequential K.name.group in
             MatchResult result (λ _. HasJournaled m self.old self.new (Received (Comes frame.now) at)) (StepRefused m self.old self.new (Comes frame.now) at) }
     {
-        if self.ahead {
+        if self.is_step_unentered {
             return Err(Fault::Stranger);
         }
         // A law: no effect at run time. The proof takes from it that a step keeps a node, and the frames that it sends,
@@ -178,7 +179,7 @@ impl<O: Object, K: BookName<O::Alloc>> Cell<O, K> {
             Ok(()) => {
                 let places = self.node.committed_len() as usize;
                 let received_frame = ReceivedFrame::new(frame, bytes);
-                self.journal.push_reserved(step_of(
+                self.journal.push_reserved(step_with_outputs(
                     self.alloc,
                     self.me,
                     StepInput::FrameBytes(received_frame, at),
@@ -186,15 +187,15 @@ impl<O: Object, K: BookName<O::Alloc>> Cell<O, K> {
                     places,
                     &mut self.text,
                 ));
-                self.ahead = true;
+                self.is_step_unentered = true;
                 Ok(())
             }
             Err(fault) => match fault {
                 Fault::Memory => {
                     let committed = self.node.committed_len() as usize;
-                    let stop = Step::stop(self.alloc, self.me, at, committed);
+                    let stop = Step::stop_of_node(self.alloc, self.me, at, committed);
                     self.journal.push_reserved(stop);
-                    self.ahead = true;
+                    self.is_step_unentered = true;
                     Err(Fault::Memory)
                 }
                 _ => Err(fault),
@@ -219,18 +220,18 @@ impl<O: Object, K: BookName<O::Alloc>> Cell<O, K> {
             (SubmitRefused m self.old) }
         ensures err { OnErr result (self.new ≡ self.old) }
     {
-        if self.ahead {
+        if self.is_step_unentered {
             return Err(Fault::Stranger);
         }
         // Laws: no effect at run time. The proof takes from them that the node is within the limits, and the call
         // within those of snapshots.
         node_fits_law::<O>();
-        call_keeps_law(&call);
-        let ticket = self.node.submit_on(&call)?;
+        call_fits_snapshot_law(&call);
+        let ticket = self.node.submit_borrowed(&call)?;
         let places = self.node.committed_len() as usize;
         self.journal
-            .push_reserved(Step::called(self.alloc, self.me, call, places));
-        self.ahead = true;
+            .push_reserved(Step::submit_of(self.alloc, self.me, call, places));
+        self.is_step_unentered = true;
         Ok(ticket)
     }
 }
@@ -238,7 +239,7 @@ impl<O: Object, K: BookName<O::Alloc>> Cell<O, K> {
 /// Returns the step of a node on this input, with these outputs and this committed length.
 ///
 /// `text` is a scratch buffer that must have a capacity of at least 8,192 bytes.
-fn step_of<A: Allocator + Copy + Drop>(
+fn step_with_outputs<A: Allocator + Copy + Drop>(
     alloc: A,
     me: Proc,
     input: StepInput<A>,
@@ -266,6 +267,6 @@ fn step_of<A: Allocator + Copy + Drop>(
         dropped: _,
         restored: _,
     } = outs;
-    let frames = Frames::new(alloc, sends, text);
+    let frames = LineFrames::new(alloc, sends, text);
     Step::new(me, input, frames, answers, committed, places)
 }

@@ -7,15 +7,15 @@
 
 mod answer_indexes;
 mod book;
+mod book_name;
 mod cell;
-mod name;
 mod opening;
 
 pub use book::{Book, Place};
+pub use book_name::BookName;
 pub use cell::Cell;
-pub use name::BookName;
 pub use opening::Opening;
-pub use ring_book_lines::{Cause, FrameRef, Frames, Line, linear_law};
+pub use ring_book_lines::{Cause, FrameRef, Line, LineFrames, linear_law};
 pub use ring_node::Node;
 pub use ring_node_spec::Input;
 

@@ -10,8 +10,8 @@ ghost use Rattle.ring_book.specs.Openings.{AllStart, AllStartEnds, empty_book, n
 
 use crate::answer_indexes::AnswerIndex;
 use crate::book::Book;
+use crate::book_name::BookName;
 use crate::cell::Cell;
-use crate::name::BookName;
 use bytes::BytesMut;
 use ring_base::{Fault, Fixed, MAX_FRAME_BYTES, Proc};
 use ring_book_lines::{Step, node_fits_law};
@@ -38,7 +38,7 @@ pub struct Opening<O: Object> {
 
 impl<O: Object> Model for Opening<O> {
     ghost use Rattle.std.specs.Prelude.{length, ◌≡◌, ◌≤◌};
-    ghost use Rattle.ring_book.specs.Ends.{Name};
+    ghost use Rattle.ring_book.specs.JournalEnds.{Name};
     ghost use Rattle.ring_book_lines.specs.Machines.{node_machine};
     ghost use Rattle.ring_book.specs.Openings.{rings_of, AllStart, AllStartEnds};
 
@@ -64,7 +64,7 @@ impl<O: Object> Opening<O> {
         let mut nodes = VecDeque::new(alloc);
         let mut writers = VecDeque::new(alloc);
         let mut ends = Vec::new(alloc);
-        open_all(alloc, group, &mut nodes, &mut writers, &mut ends)?;
+        open_nodes(alloc, group, &mut nodes, &mut writers, &mut ends)?;
         Ok(Opening {
             alloc,
             group,
@@ -108,7 +108,7 @@ impl<O: Object> Opening<O> {
 /// The lists must be empty.
 ///
 /// Errors: `Memory` if an allocation fails.
-fn open_all<O: Object>(
+fn open_nodes<O: Object>(
     alloc: O::Alloc,
     group: Fixed,
     nodes: &mut VecDeque<Node<O>, O::Alloc>,
@@ -125,7 +125,7 @@ fn open_all<O: Object>(
     ensures refused { IfErr result (λ fault. fault ≡ Memory) }
 {
     for i in 0..group.count() {
-        open(alloc, group, Proc::new(i + 1), nodes, writers, ends)?;
+        open_node(alloc, group, Proc::new(i + 1), nodes, writers, ends)?;
     }
     Ok(())
 }
@@ -133,7 +133,7 @@ fn open_all<O: Object>(
 /// Opens the next node and its journal.
 ///
 /// Errors: `Memory` if an allocation fails.
-fn open<O: Object>(
+fn open_node<O: Object>(
     alloc: O::Alloc,
     group: Fixed,
     me: Proc,
@@ -250,11 +250,11 @@ fn next_cell<O: Object, K: BookName<O::Alloc>>(
     node_fits_law::<O>();
     Ok(Cell {
         me,
-        ahead: false,
+        is_step_unentered: false,
         node,
         journal,
         alloc,
         text,
-        of: PhantomData,
+        book_name: PhantomData,
     })
 }

@@ -5,7 +5,7 @@ use Rattle.std.specs.Prelude.{slice_set}
 use Rattle.std.proofs.lemmas.List.{set-append_left}
 use Rattle.std.specs.List.{AllByRecursion}
 use Rattle.ring_session.specs.declared.answer.Answer.{Answer}
-use Rattle.ring_session.specs.declared.answered.TicketAnswer.{TicketAnswer}
+use Rattle.ring_session.specs.declared.ticket_answer.TicketAnswer.{TicketAnswer}
 use Rattle.ring_book_lines.specs.declared.input.LineInput.{LineInput}
 use Rattle.ring_book_lines.specs.declared.input.LineInput.TheVariants.{Submitted, Received}
 use Rattle.ring_book_lines.specs.Answers.{with_answers, answers_after_step, answers_after_steps}

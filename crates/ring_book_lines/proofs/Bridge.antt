@@ -16,16 +16,16 @@ use Rattle.ring_session.specs.declared.answer.Answer.{Answer}
 use Rattle.ring_wire.specs.declared.frame.Frame.{Frame}
 use Rattle.ring_core_spec.specs.State.{Transmission, frame_at}
 use Rattle.ring_session.specs.Tickets.{TicketCall, ticket_calls}
-use Rattle.ring_session.specs.declared.answered.TicketAnswer.{TicketAnswer}
+use Rattle.ring_session.specs.declared.ticket_answer.TicketAnswer.{TicketAnswer}
 use Rattle.ring_node_spec.specs.declared.input.Input.{Input}
 use Rattle.ring_node_spec.specs.declared.input.Input.TheVariants.{Frame as Comes, Noise, Timeout, Stop}
 use Rattle.ring_node_spec.specs.Nodes.{Node, node_known_log, node_opening, node_stopped}
-use Rattle.ring_node_spec.specs.Stepping.{NodeStepResult, node_step, submit_fault, submitted}
+use Rattle.ring_node_spec.specs.Stepping.{NodeStepResult, node_step, submit_fault, node_after_submit}
 use Rattle.ring_node_spec.specs.WorldLimits.{EventFits}
-use Rattle.ring_node_spec.specs.Worlds.{World, world_opening, put, is_node, carried_frames, items_of, calls_past, after_step, issued_or, issued_if}
-use Rattle.ring_node_spec.specs.Worlds.{stopped_if, stepped_if, handed_if, handed, happens, run}
+use Rattle.ring_node_spec.specs.Worlds.{World, world_opening, with_node, is_node, carried_frames, reply_items_of, calls_past, after_step, world_after_submit, world_after_submit_if_member}
+use Rattle.ring_node_spec.specs.Worlds.{world_after_stop_if_member, world_after_input_if_member, world_after_receipt_if_sent, world_after_delivery, world_after_event, run}
 use Rattle.ring_node_spec.proofs.NodeChanges.{no_calls_past}
-use Rattle.ring_order_proof.specs.Linear.{EventKeeps}
+use Rattle.ring_order_proof.specs.Linear.{IsEventCallWithinLimits}
 use Rattle.ring_book_lines.specs.declared.frame_ref.FrameRef.{FrameRef}
 use Rattle.ring_book_lines.specs.declared.input.LineInput.{LineInput}
 use Rattle.ring_book_lines.specs.declared.input.LineInput.TheVariants.{Submitted, Received}
@@ -36,10 +36,10 @@ use Rattle.ring_book_lines.specs.Lines.{steps_of, IsDeliverable}
 use Rattle.ring_book_lines.specs.Logs.{places_after, committed_places_of}
 use Rattle.ring_book_lines.specs.Machines.{Machine, node_machine}
 use Rattle.ring_book_lines.specs.Orders.{call_in, calls_of}
-use Rattle.ring_book_lines.specs.Runs.{LineFits, Makes, IsStep, Leads, AreDeliverable, IsInside, IsBookRun}
+use Rattle.ring_book_lines.specs.Runs.{LineFits, IsLineOfStep, IsStep, LeadsToState, AreDeliverable, IsInside, IsBookRun}
 use Rattle.ring_book_lines.specs.Steps.{StepView, LineView}
 use Rattle.ring_book_lines.proofs.Given.{HasOwn, step-adds, answers_of-stepped, answers_of-submitted, own-stepped, own-submitted}
-use Rattle.ring_order_proof.proofs.LongestCommitted.{epochs_opening-known, within-longest, taken-longest, order-longest}
+use Rattle.ring_order_proof.proofs.LongestCommitted.{history_opening_of-known, within-longest, taken-longest, order-longest}
 use Rattle.ring_order_proof.proofs.ConsistentRuns.{run-more}
 use Rattle.ring_book_lines.proofs.Leading.{leads_one, steps_of-own, steps_of-other, steps_of-first, steps_of-skip}
 use Rattle.ring_book_lines.proofs.Logging.{IsLogged, logged-next}
@@ -82,7 +82,7 @@ event-fits before node (Received Noise at) h = tt
 event-fits before node (Received (Timeout kind) at) h = tt
 event-fits before node (Received Stop at) h = tt
 
-event-keeps : {A : Type 0} (before : List (LineView A)) (node : ℕ) (input : LineInput A) → LineFits input → EventKeeps (event_of before node input)
+event-keeps : {A : Type 0} (before : List (LineView A)) (node : ℕ) (input : LineInput A) → LineFits input → IsEventCallWithinLimits (event_of before node input)
 event-keeps before node (Submitted c) h = h
 event-keeps before node (Received (Comes f) at) h = tt
 event-keeps before node (Received Noise at) h = tt
@@ -104,28 +104,28 @@ module _ {O A : Type 0} (object : Sequential O) (group : Group) where
     pub history : after.history ≡ w.history ++ items_in input l.answers
     pub longest : after.longest ≡ w.longest ++ calls_past (length w.longest) (node_known_log u).committed l.calls
 
-  put-own : (w : World A) (node : ℕ) (n : Node A) → put w.nodes node n node ≡ n
+  put-own : (w : World A) (node : ℕ) (n : Node A) → with_node w.nodes node n node ≡ n
   put-own w node n = cond-true (node == node) n (w.nodes node) (eq-eqb node node refl)
 
-  put-other : (w : World A) (node : ℕ) (n : Node A) (i : ℕ) → (i == node) ≡ false → put w.nodes node n i ≡ w.nodes i
+  put-other : (w : World A) (node : ℕ) (n : Node A) (i : ℕ) → (i == node) ≡ false → with_node w.nodes node n i ≡ w.nodes i
   put-other w node n i e = cond-false (i == node) n (w.nodes i) e
 
   abbrev issued_in : World A → ℕ → Call A → World A
-  issued_in w node c = issued_or None w node c
+  issued_in w node c = world_after_submit None w node c
 
-  next_issued : (w after : World A) (node : ℕ) (c : Call A) (l : StepView A) (u : Node A) → after ≡ issued_in w node c → u ≡ submitted (w.nodes node) c
+  next_issued : (w after : World A) (node : ℕ) (c : Call A) (l : StepView A) (u : Node A) → after ≡ issued_in w node c → u ≡ node_after_submit (w.nodes node) c
       → l.frames ≡ [] → l.calls ≡ [] → IsNext w after node (Submitted c) l u
   next_issued w after node c l u e new none same = record {
     group_is = ap (λ x. x.group) e;
-    own = ap (λ (x : World A). x.nodes node) e ∙ (put-own w node (submitted (w.nodes node) c) ∙ sym new);
-    others = λ i apart. ap (λ (x : World A). x.nodes i) e ∙ put-other w node (submitted (w.nodes node) c) i apart;
+    own = ap (λ (x : World A). x.nodes node) e ∙ (put-own w node (node_after_submit (w.nodes node) c) ∙ sym new);
+    others = λ i apart. ap (λ (x : World A). x.nodes i) e ∙ put-other w node (node_after_submit (w.nodes node) c) i apart;
     frames = ap (λ x. x.frames) e ∙ (sym (append-nil w.frames) ∙ ap (λ fs. w.frames ++ carried_frames node fs) (sym none));
     history = ap (λ x. x.history) e;
     longest = ap (λ x. x.longest) e ∙ sym (no_calls_past w.longest (node_known_log u).committed l.calls same);
   }
 
   next_done : (w after : World A) (node : ℕ) (input : Input A) (at : FrameRef) (l : StepView A) (u : Node A) (d : NodeStepResult A) → after.group ≡ w.group
-      → after.nodes ≡ put w.nodes node d.node → after.frames ≡ w.frames ++ carried_frames node d.sends → after.history ≡ w.history ++ items_of d.answers
+      → after.nodes ≡ with_node w.nodes node d.node → after.frames ≡ w.frames ++ carried_frames node d.sends → after.history ≡ w.history ++ reply_items_of d.answers
       → after.longest ≡ w.longest ++ calls_past (length w.longest) (node_known_log d.node).committed d.committed
       → u ≡ d.node → l.frames ≡ d.sends → l.answers ≡ d.answers → l.calls ≡ d.committed → IsNext w after node (Received input at) l u
   next_done w after node input at l u d same nodes frames history longest new sent told calls = record {
@@ -133,7 +133,7 @@ module _ {O A : Type 0} (object : Sequential O) (group : Group) where
     own = ap (λ (f : ℕ → Node A). f node) nodes ∙ (put-own w node d.node ∙ sym new);
     others = λ i apart. ap (λ (f : ℕ → Node A). f i) nodes ∙ put-other w node d.node i apart;
     frames = frames ∙ ap (λ fs. w.frames ++ carried_frames node fs) (sym sent);
-    history = history ∙ ap (λ (as' : List _). w.history ++ items_of as') (sym told);
+    history = history ∙ ap (λ (as' : List _). w.history ++ reply_items_of as') (sym told);
     longest = longest
         ∙ (ap (λ (n : Node A). w.longest ++ calls_past (length w.longest) (node_known_log n).committed d.committed) (sym new)
         ∙ ap (λ (cs : List (Call A)). w.longest ++ calls_past (length w.longest) (node_known_log u).committed cs) (sym calls));
@@ -142,34 +142,34 @@ module _ {O A : Type 0} (object : Sequential O) (group : Group) where
   -- the delivered frame was sent in the world
   comes : (o : Option (Transmission A)) (w : World A) (node : ℕ) (f : Frame A) (s : Transmission A) → o ≡ Some s → s.frame ≡ f → has s.to node ≡ true
       → is_node w node ≡ true
-      → (handed object w node o ≡ after_step w node (node_step object (w.nodes node) (Comes f)))
+      → (world_after_delivery object w node o ≡ after_step w node (node_step object (w.nodes node) (Comes f)))
       × IsSomeAnd o (λ (x : Transmission A). (x.frame ≡ f) × (has x.to node ≡ true))
   comes None w node f s e is to known = absurd cc
   comes (Some x) w node f s e is to known =
       let one : x ≡ s = cc in
       let frame : x.frame ≡ f = ap (λ (y : Transmission A). y.frame) one ∙ is in
       let goes : has x.to node ≡ true = ap (λ (y : Transmission A). has y.to node) one ∙ to in (
-        ap (λ (b : Bool). handed_if object b w node x.frame) goes ∙ (ap (λ (b : Bool). stepped_if object b w node (Comes x.frame)) known
+        ap (λ (b : Bool). world_after_receipt_if_sent object b w node x.frame) goes ∙ (ap (λ (b : Bool). world_after_input_if_member object b w node (Comes x.frame)) known
             ∙ ap (λ (g : Frame A). after_step w node (node_step object (w.nodes node) (Comes g))) frame),
         (frame, goes),
       )
 
-  issues : (o : Option Fault) (w : World A) (node : ℕ) (c : Call A) → o ≡ None → issued_or o w node c ≡ issued_in w node c
+  issues : (o : Option Fault) (w : World A) (node : ℕ) (c : Call A) → o ≡ None → world_after_submit o w node c ≡ issued_in w node c
   issues None w node c e = refl
   issues (Some fault) w node c e = absurd cc
 
   pub record Follows (w : World A) (before : List (LineView A)) (node : ℕ) (input : LineInput A) (l : StepView A) (u : Node A) : Type 0 where
     pub done : IsDone object w before node input l
-    pub next : IsNext w (happens object w (event_of before node input)) node input l u
+    pub next : IsNext w (world_after_event object w (event_of before node input)) node input l u
 
   -- a line of a book run is a line of the run
   follows : (w : World A) (before : List (LineView A)) (node : ℕ) (input : LineInput A) (l : StepView A) (u : Node A) → is_node w node ≡ true
       → w.frames ≡ frames_of before
-      → Makes machine (w.nodes node) input l u → IsDeliverable before node input → Follows w before node input l u
+      → IsLineOfStep machine (w.nodes node) input l u → IsDeliverable before node input → Follows w before node input l u
   follows w before node (Submitted c) l u known e made found = record {
     done = (made.0, made.2, made.3, made.4);
-    next = next_issued w (happens object w (event_of before node (Submitted c))) node c l u
-        (ap (λ (b : Bool). issued_if b w node c) known ∙ issues (submit_fault (w.nodes node)) w node c made.0) made.1 made.2 made.4;
+    next = next_issued w (world_after_event object w (event_of before node (Submitted c))) node c l u
+        (ap (λ (b : Bool). world_after_submit_if_member b w node c) known ∙ issues (submit_fault (w.nodes node)) w node c made.0) made.1 made.2 made.4;
   }
   follows w before node (Received (Comes f) at) l u known e made found =
       let d = node_step object (w.nodes node) (Comes f) in
@@ -178,7 +178,7 @@ module _ {O A : Type 0} (object : Sequential O) (group : Group) where
       let c = comes (frame_at w.frames (frame_number before at)) w node f t.0 at_there t.1.1.0 t.1.1.1 known in
       record {
         done = (made.0, made.2, made.3, made.4, c.1);
-        next = next_done w (happens object w (event_of before node (Received (Comes f) at))) node (Comes f) at l u d
+        next = next_done w (world_after_event object w (event_of before node (Received (Comes f) at))) node (Comes f) at l u d
             (ap (λ (x : World A). x.group) c.0) (ap (λ (x : World A). x.nodes) c.0) (ap (λ (x : World A). x.frames) c.0) (ap (λ (x : World A). x.history) c.0)
             (ap (λ (x : World A). x.longest) c.0) made.1 made.2 made.3 made.4;
       }
@@ -189,27 +189,27 @@ module _ {O A : Type 0} (object : Sequential O) (group : Group) where
       own = sym made.1;
       others = λ i apart. refl;
       frames = sym (append-nil w.frames) ∙ ap (λ fs. w.frames ++ carried_frames node fs) (sym made.2);
-      history = sym (append-nil w.history) ∙ ap (λ (as' : List (TicketAnswer A)). w.history ++ items_of as') (sym made.3);
+      history = sym (append-nil w.history) ∙ ap (λ (as' : List (TicketAnswer A)). w.history ++ reply_items_of as') (sym made.3);
       longest = sym (no_calls_past w.longest (node_known_log u).committed l.calls made.4);
     };
   }
   follows w before node (Received (Timeout kind) at) l u known e made found =
       let d = node_step object (w.nodes node) (Timeout kind) in
-      let is : happens object w (event_of before node (Received (Timeout kind) at)) ≡ after_step w node d =
-      ap (λ (b : Bool). stepped_if object b w node (Timeout kind)) known in
+      let is : world_after_event object w (event_of before node (Received (Timeout kind) at)) ≡ after_step w node d =
+      ap (λ (b : Bool). world_after_input_if_member object b w node (Timeout kind)) known in
       record {
         done = (made.0, made.2, made.3, made.4, tt);
-        next = next_done w (happens object w (event_of before node (Received (Timeout kind) at))) node (Timeout kind) at l u d
+        next = next_done w (world_after_event object w (event_of before node (Received (Timeout kind) at))) node (Timeout kind) at l u d
             (ap (λ (x : World A). x.group) is) (ap (λ (x : World A). x.nodes) is) (ap (λ (x : World A). x.frames) is) (ap (λ (x : World A). x.history) is)
             (ap (λ (x : World A). x.longest) is) made.1 made.2 made.3 made.4;
       }
   follows w before node (Received Stop at) l u known e made found =
       let n = node_stopped (w.nodes node) in
-      let is : happens object w (event_of before node (Received Stop at)) ≡ record w { nodes = put w.nodes node n } =
-      ap (λ (b : Bool). stopped_if b w node) known in
+      let is : world_after_event object w (event_of before node (Received Stop at)) ≡ record w { nodes = with_node w.nodes node n } =
+      ap (λ (b : Bool). world_after_stop_if_member b w node) known in
       record {
         done = (made.0, made.2, made.3, made.4, tt);
-        next = next_done w (happens object w (event_of before node (Received Stop at))) node Stop at l u (node_step object (w.nodes node) Stop)
+        next = next_done w (world_after_event object w (event_of before node (Received Stop at))) node Stop at l u (node_step object (w.nodes node) Stop)
             (ap (λ (x : World A). x.group) is) (ap (λ (x : World A). x.nodes) is) (ap (λ (x : World A). x.frames) is ∙ sym (append-nil w.frames))
             (ap (λ (x : World A). x.history) is ∙ sym (append-nil w.history))
             (ap (λ (x : World A). x.longest) is ∙ sym (no_calls_past w.longest (node_known_log n).committed [] refl)) made.1 made.2 made.3 made.4;
@@ -233,7 +233,7 @@ module _ {O A : Type 0} (object : Sequential O) (group : Group) where
     answers : answers_of u ≡ answers_after_step (answers_of n) input l.answers
     own : HasOwn u
 
-  makes3 : (n u : Node A) (input : LineInput A) (l : StepView A) → Makes machine n input l u → HasOwn n → Makes3 n u input l
+  makes3 : (n u : Node A) (input : LineInput A) (l : StepView A) → IsLineOfStep machine n input l u → HasOwn n → Makes3 n u input l
   makes3 n u (Submitted c) l made own = record {
     calls = ap (λ (x : Node A). ticket_calls x.tickets) made.1
         ∙ map-append (λ (t : TicketCall A). t.call) n.tickets (record { call = c; since = length n.done } ∷ []);
@@ -324,7 +324,7 @@ module _ {O A : Type 0} (object : Sequential O) (group : Group) (few : group.cou
   world lines = run object (world_opening group) (events_of lines)
 
   world-more : (before : List (LineView A)) (l : LineView A)
-      → world (before ++ l ∷ []) ≡ happens object (world before) (event_of before l.step.node l.step.input)
+      → world (before ++ l ∷ []) ≡ world_after_event object (world before) (event_of before l.step.node l.step.input)
   world-more before l =
       ap (run object (world_opening group)) (after-snoc [] before l)
       ∙ run-more object (world_opening group) (events_of before) (event_of before l.step.node l.step.input)
@@ -334,41 +334,41 @@ module _ {O A : Type 0} (object : Sequential O) (group : Group) (few : group.cou
 
   -- each node's steps continue from this world
   abbrev Lead : World A → List (LineView A) → Type 0
-  Lead w ls = (i : ℕ) → 1 ≤ i → i ≤ group.count → (t : Node A) × Leads m (w.nodes i) (steps_of i ls) t
+  Lead w ls = (i : ℕ) → 1 ≤ i → i ≤ group.count → (t : Node A) × LeadsToState m (w.nodes i) (steps_of i ls) t
 
   abbrev LeadTo : World A → List (LineView A) → World A → Type 0
-  LeadTo w ls last = (i : ℕ) → 1 ≤ i → i ≤ group.count → Leads m (w.nodes i) (steps_of i ls) (last.nodes i)
+  LeadTo w ls last = (i : ℕ) → 1 ≤ i → i ≤ group.count → LeadsToState m (w.nodes i) (steps_of i ls) (last.nodes i)
 
   pub record Ran (before ls : List (LineView A)) : Type 0 where
     pub done : AreDone object (world before) before ls
     pub fit : Each EventFits (events_after before ls)
-    pub keep : Each EventKeeps (events_after before ls)
+    pub keep : Each IsEventCallWithinLimits (events_after before ls)
     pub says : Says object group (world (before ++ ls)) (before ++ ls)
     pub nodes : LeadTo (world before) ls (world (before ++ ls))
 
   -- the first line of its node
   first : (w : World A) (l : LineView A) (ls : List (LineView A)) → 1 ≤ l.step.node → l.step.node ≤ group.count → Lead w (l ∷ ls)
-      → (t : Node A) × Leads m (w.nodes l.step.node) (l.step ∷ steps_of l.step.node ls) t
+      → (t : Node A) × LeadsToState m (w.nodes l.step.node) (l.step ∷ steps_of l.step.node ls) t
   first w l ls low high lead =
       let h = lead l.step.node low high in (
         h.0,
-        subst (λ (ss : List (StepView A)). Leads m (w.nodes l.step.node) ss h.0)
+        subst (λ (ss : List (StepView A)). LeadsToState m (w.nodes l.step.node) ss h.0)
             (steps_of-first l.step.node ls l (eq-eqb l.step.node l.step.node refl)) h.1,
       )
 
   rest-leads : (w after : World A) (l : LineView A) (ls : List (LineView A)) (u : Node A) → IsNext object group w after l.step.node l.step.input l.step u
-      → ((t : Node A) × Leads m u (steps_of l.step.node ls) t) → Lead w (l ∷ ls) → Lead after ls
+      → ((t : Node A) × LeadsToState m u (steps_of l.step.node ls) t) → Lead w (l ∷ ls) → Lead after ls
   rest-leads w after l ls u next own lead i low high = elim (cases_Bool (i == l.step.node)) [
     | inl t ↦
         let e : i ≡ l.step.node = eqb-true i l.step.node t in
         let is : after.nodes i ≡ u = ap (λ (k : ℕ). after.nodes k) e ∙ next.own in
-        (own.0, subst (λ (x : Node A). Leads m x (steps_of i ls) own.0) (sym is) (subst (λ (k : ℕ). Leads m u (steps_of k ls) own.0) (sym e) own.1))
+        (own.0, subst (λ (x : Node A). LeadsToState m x (steps_of i ls) own.0) (sym is) (subst (λ (k : ℕ). LeadsToState m u (steps_of k ls) own.0) (sym e) own.1))
     | inr f ↦
         let h = lead i low high in
         let skip = steps_of-skip i ls l (grind (arith, nat_tests, f)) in (
           h.0,
-          subst (λ (x : Node A). Leads m x (steps_of i ls) h.0) (sym (next.others i f))
-              (subst (λ (ss : List (StepView A)). Leads m (w.nodes i) ss h.0) skip h.1),
+          subst (λ (x : Node A). LeadsToState m x (steps_of i ls) h.0) (sym (next.others i f))
+              (subst (λ (ss : List (StepView A)). LeadsToState m (w.nodes i) ss h.0) skip h.1),
         )
   ]
 
@@ -378,13 +378,13 @@ module _ {O A : Type 0} (object : Sequential O) (group : Group) (few : group.cou
     | inl t ↦
         let e : l.step.node ≡ i = sym (eqb-true i l.step.node t) in
         let is : after.nodes i ≡ u = ap (λ (k : ℕ). after.nodes k) (sym e) ∙ next.own in
-        let more : Leads m u (steps_of i ls) (last.nodes i) = subst (λ (x : Node A). Leads m x (steps_of i ls) (last.nodes i)) is (rest i low high) in
+        let more : LeadsToState m u (steps_of i ls) (last.nodes i) = subst (λ (x : Node A). LeadsToState m x (steps_of i ls) (last.nodes i)) is (rest i low high) in
         let here : IsStep m (w.nodes i) l.step u = subst (λ (k : ℕ). IsStep m (w.nodes k) l.step u) e step in
-        subst (λ (ss : List (StepView A)). Leads m (w.nodes i) ss (last.nodes i)) (sym (steps_of-first i ls l (eq-eqb l.step.node i e))) (u, (here, more))
+        subst (λ (ss : List (StepView A)). LeadsToState m (w.nodes i) ss (last.nodes i)) (sym (steps_of-first i ls l (eq-eqb l.step.node i e))) (u, (here, more))
     | inr f ↦
         let skip = steps_of-skip i ls l (grind (arith, nat_tests, f)) in
-        subst (λ (ss : List (StepView A)). Leads m (w.nodes i) ss (last.nodes i)) (sym skip)
-        (subst (λ (x : Node A). Leads m x (steps_of i ls) (last.nodes i)) (next.others i f) (rest i low high))
+        subst (λ (ss : List (StepView A)). LeadsToState m (w.nodes i) ss (last.nodes i)) (sym skip)
+        (subst (λ (x : Node A). LeadsToState m x (steps_of i ls) (last.nodes i)) (next.others i f) (rest i low high))
   ]
 
   ran : (before ls : List (LineView A)) → Says object group (world before) before → Lead (world before) ls → Each (IsInside group.count) ls → AreDeliverable before ls
@@ -401,7 +401,7 @@ module _ {O A : Type 0} (object : Sequential O) (group : Group) (few : group.cou
   ran before (l ∷ ls) says lead inside found =
       let w = world before in
       let event = event_of before l.step.node l.step.input in
-      let after = happens object w event in
+      let after = world_after_event object w event in
       let low = inside.0.0 in
       let high = inside.0.1 in
       let h = first w l ls low high lead in
@@ -434,7 +434,7 @@ module _ {O A : Type 0} (object : Sequential O) (group : Group) (few : group.cou
     calls = λ i. refl;
     answers = λ i. refl;
     own = λ i. tt;
-    committed = λ i. epochs_opening-known A group i;
+    committed = λ i. history_opening_of-known A group i;
     logged = record { below = tt; total = refl; calls_are = refl };
   }
 
@@ -461,5 +461,5 @@ module _ {O A : Type 0} (object : Sequential O) (group : Group) (few : group.cou
       }
 
   pub node_is : (lines : List (LineView A)) (i : ℕ) (t : Node A) → IsBookRun m group.count lines → 1 ≤ i → i ≤ group.count
-      → Leads m (node_opening group i) (steps_of i lines) t → t ≡ (world lines).nodes i
+      → LeadsToState m (node_opening group i) (steps_of i lines) t → t ≡ (world lines).nodes i
   node_is lines i t r low high led = leads_one m (node_opening group i) (steps_of i lines) t ((world lines).nodes i) led ((book_ran lines r).nodes i low high)

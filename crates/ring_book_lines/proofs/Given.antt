@@ -15,14 +15,14 @@ use Rattle.ring_core_spec.specs.declared.out.Out.{Out}
 use Rattle.ring_log.specs.KnownLog.{KnownLog, known_log_of, retained_log, is_known_log_sound}
 use Rattle.ring_log.specs.Logs.{committed_calls}
 use Rattle.ring_session.specs.Table.{Table, table_answer, table_next}
-use Rattle.ring_session.specs.Tickets.{TicketCall, answers_after, answers_at, is_place, place_of}
-use Rattle.ring_session.specs.declared.answered.TicketAnswer.{TicketAnswer}
-use Rattle.ring_node_spec.specs.DueSends.{due_by}
+use Rattle.ring_session.specs.Tickets.{TicketCall, answers_after, answers_at, is_place, answering_place}
+use Rattle.ring_session.specs.declared.ticket_answer.TicketAnswer.{TicketAnswer}
+use Rattle.ring_node_spec.specs.DueSends.{due_of_outputs}
 use Rattle.ring_node_spec.specs.EpochHistories.{epochs_after}
 use Rattle.ring_node_spec.specs.Nodes.{Node, node_known_log, node_stopped, is_closed, is_restored}
 use Rattle.ring_node_spec.specs.declared.input.Input.{Input}
 use Rattle.ring_node_spec.specs.declared.input.Input.TheVariants.{Frame as FrameInput, Noise as NoiseInput, Timeout as TimeInput, Stop as StopInput}
-use Rattle.ring_node_spec.specs.Stepping.{NodeStepResult, empty_step, with_dropped, newly_committed, drops, ended, table_since, did, settled, node_after_outputs, after_core, node_step, submitted}
+use Rattle.ring_node_spec.specs.Stepping.{NodeStepResult, empty_step, with_dropped, newly_committed, drops, step_after_trim, table_since, did, settled, node_after_outputs, after_core, node_step, node_after_submit}
 use Rattle.ring_book_lines.specs.Answers.{with_answers, answers_by_ticket}
 use Rattle.ring_book_lines.specs.Events.{answers_of}
 use Rattle.ring_book_lines.proofs.AnswersByTicket.{with_answers-append, with_answers-left}
@@ -50,8 +50,8 @@ below-at : {A : Type 0} (n : ℕ) (answer : Answer) (done : List (Call A)) (plac
 below-at n answer done place ticket [] h = tt
 below-at {A} n answer done place ticket (t ∷ ts) h =
     let a : TicketAnswer A = record { ticket = ticket; call = t.call; answer = answer } in
-    below-append n (if is_place place (place_of done t) then a ∷ [] else []) (answers_at answer done place (ticket + 1) ts)
-    (below-if n a (is_place place (place_of done t)) (omega arith)) (below-at n answer done place (ticket + 1) ts (omega arith))
+    below-append n (if is_place place (answering_place done t) then a ∷ [] else []) (answers_at answer done place (ticket + 1) ts)
+    (below-if n a (is_place place (answering_place done t)) (omega arith)) (below-at n answer done place (ticket + 1) ts (omega arith))
 
 -- the answers that calls give are of the tickets
 below-after : {O A : Type 0} (object : Sequential O) (table : Table O) (tickets : List (TicketCall A)) (done more : List (Call A))
@@ -84,8 +84,8 @@ stopped-adds n = record { tickets = refl; answers = sym (append-nil n.answers); 
 
 module _ {O A : Type 0} (object : Sequential O) where
   -- dropping places adds nothing
-  ended-adds : (closed : Bool) (k : KnownLog A) (n : Node A) (s : NodeStepResult A) → Adds n s → Adds n (ended object closed k s)
-  ended-adds closed k n s adds =
+  step_after_trim-adds : (closed : Bool) (k : KnownLog A) (n : Node A) (s : NodeStepResult A) → Adds n s → Adds n (step_after_trim object closed k s)
+  step_after_trim-adds closed k n s adds =
       cond_both (drops object closed k) (record s { node = with_dropped k.committed s.node; dropped = committed_calls (retained_log k) }) s (Adds n)
       (λ t. record { tickets = adds.tickets; answers = adds.answers; own = adds.own }) (λ f. adds)
 
@@ -97,13 +97,13 @@ module _ {O A : Type 0} (object : Sequential O) where
   settled-adds false n new outs k same = stopped-adds n
   settled-adds true n new outs k same =
       let more = newly_committed (node_known_log n) k in
-      ended-adds (is_closed n.group new.epochs) k n (did object n new outs k more) (did-adds n new outs k more same)
+      step_after_trim-adds (is_closed n.group new.epochs) k n (did object n new outs k more) (did-adds n new outs k more same)
 
   core-adds : (n : Node A) (s : StepResult A) → Adds n (after_core object n s)
   core-adds n s =
       let epochs = epochs_after n.epochs s.outs in
       settled-adds (is_known_log_sound n.group epochs && is_restored object (known_log_of n.group epochs)) n
-      (node_after_outputs n s.core epochs (due_by object n s.core n.epochs s.outs)) s.outs (known_log_of n.group epochs) refl
+      (node_after_outputs n s.core epochs (due_of_outputs object n s.core n.epochs s.outs)) s.outs (known_log_of n.group epochs) refl
 
   pub step-adds : (n : Node A) (input : Input A) → Adds n (node_step object n input)
   step-adds n (FrameInput frame) = core-adds n (ring_step n.core (CoreFrame frame))
@@ -125,7 +125,7 @@ own-stepped {A} n s adds own =
 
 -- A submit adds a ticket without an answer
 
-pub answers_of-submitted : {A : Type 0} (n : Node A) (c : Call A) → HasOwn n → answers_of (submitted n c) ≡ answers_of n ++ None ∷ []
+pub answers_of-submitted : {A : Type 0} (n : Node A) (c : Call A) → HasOwn n → answers_of (node_after_submit n c) ≡ answers_of n ++ None ∷ []
 answers_of-submitted {A} n c own =
     let t : TicketCall A = record { call = c; since = length n.done } in
     let k = length n.tickets in
@@ -135,7 +135,7 @@ answers_of-submitted {A} n c own =
     ∙ (ap (λ (ts : List (Option Answer)). with_answers ts n.answers) (sym (replicate-append-replicate k 1 none))
     ∙ with_answers-left (replicate k None) (None ∷ []) n.answers below)
 
-pub own-submitted : {A : Type 0} (n : Node A) (c : Call A) → HasOwn n → HasOwn (submitted n c)
+pub own-submitted : {A : Type 0} (n : Node A) (c : Call A) → HasOwn n → HasOwn (node_after_submit n c)
 own-submitted {A} n c own =
     let t : TicketCall A = record { call = c; since = length n.done } in
     below-more (length n.tickets) (length (n.tickets ++ t ∷ [])) n.answers (let e = length-append n.tickets (t ∷ []) in omega (arith, e)) own

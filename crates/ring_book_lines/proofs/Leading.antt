@@ -6,14 +6,14 @@ use Rattle.ring_book_lines.specs.declared.input.LineInput.{LineInput}
 use Rattle.ring_book_lines.specs.declared.input.LineInput.TheVariants.{Submitted, Received}
 use Rattle.ring_book_lines.specs.Lines.{steps, own_steps, steps_of}
 use Rattle.ring_book_lines.specs.Machines.{Machine}
-use Rattle.ring_book_lines.specs.Runs.{Leads, Makes, IsStep}
+use Rattle.ring_book_lines.specs.Runs.{LeadsToState, IsLineOfStep, IsStep}
 use Rattle.ring_book_lines.specs.Steps.{StepView, LineView}
 
 -- one more step
-pub Leads-snoc : {S A : Type 0} (m : Machine S A) (s : S) (ls : List (StepView A)) (u t : S) (l : StepView A)
-    → Leads m s ls u → IsStep m u l t → Leads m s (ls ++ l ∷ []) t
-Leads-snoc {S} m s [] u t l h step = (t, (subst (λ (x : S). IsStep m x l t) h step, refl))
-Leads-snoc m s (x ∷ ls) u t l h step = (h.0, (h.1.0, Leads-snoc m h.0 ls u t l h.1.1 step))
+pub LeadsToState-snoc : {S A : Type 0} (m : Machine S A) (s : S) (ls : List (StepView A)) (u t : S) (l : StepView A)
+    → LeadsToState m s ls u → IsStep m u l t → LeadsToState m s (ls ++ l ∷ []) t
+LeadsToState-snoc {S} m s [] u t l h step = (t, (subst (λ (x : S). IsStep m x l t) h step, refl))
+LeadsToState-snoc m s (x ∷ ls) u t l h step = (h.0, (h.1.0, LeadsToState-snoc m h.0 ls u t l h.1.1 step))
 
 -- the steps of the lines with one more
 pub steps-snoc : {A : Type 0} (ls : List (LineView A)) (l : LineView A) → steps (ls ++ l ∷ []) ≡ steps ls ++ l.step ∷ []
@@ -44,12 +44,12 @@ steps_of-skip i ls l b = ap (λ (c : Bool). if c then (l.step ∷ steps_of i ls)
 
 -- The state after a node's steps is unique
 
-makes_one : {S A : Type 0} (m : Machine S A) (s : S) (input : LineInput A) (l : StepView A) (t u : S) → Makes m s input l t → Makes m s input l u → t ≡ u
+makes_one : {S A : Type 0} (m : Machine S A) (s : S) (input : LineInput A) (l : StepView A) (t u : S) → IsLineOfStep m s input l t → IsLineOfStep m s input l u → t ≡ u
 makes_one m s (Submitted c) l t u h k = h.1 ∙ sym k.1
 makes_one m s (Received i at) l t u h k = h.1 ∙ sym k.1
 
-pub leads_one : {S A : Type 0} (m : Machine S A) (s : S) (ls : List (StepView A)) (t u : S) → Leads m s ls t → Leads m s ls u → t ≡ u
+pub leads_one : {S A : Type 0} (m : Machine S A) (s : S) (ls : List (StepView A)) (t u : S) → LeadsToState m s ls t → LeadsToState m s ls u → t ≡ u
 leads_one m s [] t u h k = h ∙ sym k
 leads_one {S} m s (l ∷ ls) t u h k =
     let same : k.0 ≡ h.0 = makes_one m s l.input l k.0 h.0 k.1.0.makes h.1.0.makes in
-    leads_one m h.0 ls t u h.1.1 (subst (λ (x : S). Leads m x ls u) same k.1.1)
+    leads_one m h.0 ls t u h.1.1 (subst (λ (x : S). LeadsToState m x ls u) same k.1.1)

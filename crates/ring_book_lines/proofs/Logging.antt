@@ -10,7 +10,7 @@ use Rattle.ring_base.proofs.Each.{each-push}
 use Rattle.ring_base.proofs.ListPlaces.{get-last}
 use Rattle.ring_payload.specs.declared.call.Call.{Call}
 use Rattle.ring_node_spec.specs.Worlds.{calls_past}
-use Rattle.ring_book_lines.specs.declared.log.LogSegment.{LogSegment}
+use Rattle.ring_book_lines.specs.declared.committed_segments.LogSegment.{LogSegment}
 use Rattle.ring_book_lines.specs.Logs.{LogView, empty_log, log_extended, log_after_step, log_after_lines, log_of_lines, calls_on, calls_at, longest_log}
 use Rattle.ring_book_lines.specs.Steps.{LineView}
 

@@ -6,7 +6,7 @@ use Rattle.ring_base.specs.declared.fault.Fault.TheVariants.{Memory}
 use Rattle.ring_core_spec.specs.State.{OutgoingFrame}
 use Rattle.ring_wire.specs.declared.frame.Frame.{Frame}
 use Rattle.ring_wire.specs.Frames.{encoding_of}
-use Rattle.ring_book_lines.specs.Puts.{IsPut}
+use Rattle.ring_book_lines.specs.AppendedFrames.{IsPut}
 
 -- the frame's own bytes
 pub put_gives : {A : Type 0} (s : OutgoingFrame A) (frame : Frame A) (old new : List ℕ) (r : Result (Unit {0}) Fault) → frame ≡ s.frame

@@ -3,7 +3,7 @@
 use Rattle.std.specs.Prelude.{ℕ, List, [], ◌∷◌, ◌++◌, Option, Some, None, replicate, slice_get, slice_set}
 use Rattle.std.specs.Option.{option_and_then}
 use Rattle.ring_session.specs.declared.answer.Answer.{Answer}
-use Rattle.ring_session.specs.declared.answered.TicketAnswer.{TicketAnswer}
+use Rattle.ring_session.specs.declared.ticket_answer.TicketAnswer.{TicketAnswer}
 use Rattle.ring_book_lines.specs.declared.input.LineInput.{LineInput}
 use Rattle.ring_book_lines.specs.declared.input.LineInput.TheVariants.{Submitted, Received}
 use Rattle.ring_book_lines.specs.Lines.{steps_of}
@@ -37,5 +37,5 @@ abbrev pub answer_of_ticket : List (Option Answer) → ℕ → Option Answer
 answer_of_ticket told ticket = option_and_then (λ (answer : Option Answer). answer) (slice_get told ticket)
 
 -- the answer of the node's ticket after these lines, if there is one
-abbrev pub answer_in : {A : Type 0} → List (LineView A) → ℕ → ℕ → Option Answer
-answer_in lines node ticket = answer_of_ticket (answers_of_node node lines) ticket
+abbrev pub first_answer_in : {A : Type 0} → List (LineView A) → ℕ → ℕ → Option Answer
+first_answer_in lines node ticket = answer_of_ticket (answers_of_node node lines) ticket

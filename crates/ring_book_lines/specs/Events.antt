@@ -10,7 +10,7 @@ use Rattle.ring_session.specs.Deduplicated.{deduplicated}
 use Rattle.ring_core_spec.specs.State.{Transmission, frame_at}
 use Rattle.ring_log.specs.EpochHistories.{committed_of}
 use Rattle.ring_session.specs.Tickets.{ticket_calls}
-use Rattle.ring_session.specs.declared.answered.TicketAnswer.{TicketAnswer}
+use Rattle.ring_session.specs.declared.ticket_answer.TicketAnswer.{TicketAnswer}
 use Rattle.ring_node_spec.specs.declared.input.Input.{Input}
 use Rattle.ring_node_spec.specs.declared.input.Input.TheVariants.{Frame as Comes, Noise, Timeout, Stop}
 use Rattle.ring_node_spec.specs.Nodes.{Node, is_stopped}
@@ -20,8 +20,8 @@ use Rattle.ring_node_spec.specs.declared.event.Event.TheVariants as events
 use Rattle.ring_node_spec.specs.declared.item.Item.{Item}
 use Rattle.ring_node_spec.specs.declared.item.Item.TheVariants.{Issue as Issued}
 use Rattle.ring_node_spec.specs.WorldLimits.{EventFits}
-use Rattle.ring_order_proof.specs.Linear.{EventKeeps}
-use Rattle.ring_node_spec.specs.Worlds.{World, world_opening, carried_frames, happens, items_of, whole_epochs_in, order, run}
+use Rattle.ring_order_proof.specs.Linear.{IsEventCallWithinLimits}
+use Rattle.ring_node_spec.specs.Worlds.{World, world_opening, carried_frames, world_after_event, reply_items_of, whole_epochs_in, order, run}
 use Rattle.ring_book_lines.specs.declared.frame_ref.FrameRef.{FrameRef}
 use Rattle.ring_book_lines.specs.declared.input.LineInput.{LineInput}
 use Rattle.ring_book_lines.specs.declared.input.LineInput.TheVariants.{Submitted, Received}
@@ -64,7 +64,7 @@ events_of lines = events_after [] lines
 -- the history items of a step: the issued call, or the replies given
 abbrev pub items_in : {A : Type 0} → LineInput A → List (TicketAnswer A) → List (Item A)
 items_in (Submitted c) answers = Issued c ∷ []
-items_in (Received input at) answers = items_of answers
+items_in (Received input at) answers = reply_items_of answers
 
 -- the history of the lines
 abbrev pub history_of : {A : Type 0} → List (LineView A) → List (Item A)
@@ -96,7 +96,7 @@ module _ {O : Type 0} (object : Sequential O) where
   abbrev pub AreDone : {A : Type 0} → World A → List (LineView A) → List (LineView A) → Type 0
   AreDone w before [] = Unit {0}
   AreDone w before (l ∷ ls) =
-      IsDone w before l.step.node l.step.input l.step × AreDone (happens object w (event_of before l.step.node l.step.input)) (before ++ l ∷ []) ls
+      IsDone w before l.step.node l.step.input l.step × AreDone (world_after_event object w (event_of before l.step.node l.step.input)) (before ++ l ∷ []) ls
 
   -- The lines are a run of the group: their inputs are its events, with exactly these frames, answers and committed calls.
   -- The run has the frames, the history and the order of the lines. It has each node's calls, by ticket, the answers of
@@ -104,7 +104,7 @@ module _ {O : Type 0} (object : Sequential O) where
   pub record IsRun {A : Type 0} (group : Group) (lines : List (LineView A)) : Type 0 where
     pub done : AreDone (world_opening group) [] lines
     pub fit : AllByRecursion EventFits (events_of lines)
-    pub keep : AllByRecursion EventKeeps (events_of lines)
+    pub keep : AllByRecursion IsEventCallWithinLimits (events_of lines)
     pub frames : (run object (world_opening group) (events_of lines)).frames ≡ frames_of lines
     pub history : (run object (world_opening group) (events_of lines)).history ≡ history_of lines
     pub order : order (run object (world_opening group) (events_of lines)) ≡ deduplicated (longest_log lines)

@@ -1,11 +1,11 @@
 pub mod Steps
 pub mod Machines
 pub mod Lines
-pub mod Kept
+pub mod StoredSteps
 pub mod Runs
 pub mod Answers
 pub mod Orders
 pub mod Logs
 pub mod Events
-pub mod Puts
+pub mod AppendedFrames
 pub mod Limits

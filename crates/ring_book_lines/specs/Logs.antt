@@ -4,7 +4,7 @@
 -- Rules: Sessions 10; The replicated log 16
 use Rattle.std.specs.Prelude.{ℕ, suc, ◌-◌, nat_lt, List, [], ◌∷◌, ◌++◌, length, take, drop, Option, Some, None, slice_get, if◌then◌else◌}
 use Rattle.ring_payload.specs.declared.call.Call.{Call}
-use Rattle.ring_book_lines.specs.declared.log.LogSegment.{LogSegment}
+use Rattle.ring_book_lines.specs.declared.committed_segments.LogSegment.{LogSegment}
 use Rattle.ring_book_lines.specs.Lines.{steps_of}
 use Rattle.ring_book_lines.specs.Steps.{StepView, LineView}
 

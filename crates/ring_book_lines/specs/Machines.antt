@@ -9,11 +9,11 @@ use Rattle.ring_payload.specs.Calls.{CallFits}
 use Rattle.ring_payload.specs.declared.call.Call.{Call}
 use Rattle.ring_core_spec.specs.State.{OutgoingFrame}
 use Rattle.ring_order_proof.specs.Limits.{SentFits}
-use Rattle.ring_session.specs.declared.answered.TicketAnswer.{TicketAnswer}
+use Rattle.ring_session.specs.declared.ticket_answer.TicketAnswer.{TicketAnswer}
 use Rattle.ring_node_spec.specs.declared.input.Input.{Input}
 use Rattle.ring_node_spec.specs.NodeLimits.{InputFits}
 use Rattle.ring_node_spec.specs.Nodes.{Node, node_opening, node_known_log, is_stopped}
-use Rattle.ring_node_spec.specs.Stepping.{node_step, submit_fault, submitted}
+use Rattle.ring_node_spec.specs.Stepping.{node_step, submit_fault, node_after_submit}
 
 -- the outcome of a step: the next state, the frames sent, the answers given, and the calls newly committed
 pub record MachineStep (S A : Type 0) : Type 0 where
@@ -45,7 +45,7 @@ node_machine object group = record {
   is_stopped = λ n. is_stopped n.core.state;
   step = λ n input. (let did = node_step object n input in record { new = did.node; frames = did.sends; answers = did.answers; calls = did.committed });
   refusal = submit_fault;
-  submitted = submitted;
+  submitted = node_after_submit;
   tickets = λ n. length n.tickets;
   committed = λ n. (node_known_log n).committed;
 }

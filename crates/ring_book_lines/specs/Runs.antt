@@ -27,25 +27,25 @@ AreDeliverable before (l ∷ ls) = IsDeliverable before l.step.node l.step.input
 
 module _ {S A : Type 0} (m : Machine S A) where
   -- from this state, the machine makes exactly this step of the input
-  abbrev pub Makes : S → LineInput A → StepView A → S → Type 0
-  Makes s (Submitted c) l t = (m.refusal s ≡ None) × (t ≡ m.submitted s c) × (l.frames ≡ []) × (l.answers ≡ []) × (l.calls ≡ [])
-  Makes s (Received input at) l t =
+  abbrev pub IsLineOfStep : S → LineInput A → StepView A → S → Type 0
+  IsLineOfStep s (Submitted c) l t = (m.refusal s ≡ None) × (t ≡ m.submitted s c) × (l.frames ≡ []) × (l.answers ≡ []) × (l.calls ≡ [])
+  IsLineOfStep s (Received input at) l t =
       (m.is_stopped s ≡ false) × (t ≡ (m.step s input).new) × (l.frames ≡ (m.step s input).frames) × (l.answers ≡ (m.step s input).answers)
       × (l.calls ≡ (m.step s input).calls)
 
   -- the step leads a node from state s to state t
   pub record IsStep (s : S) (l : StepView A) (t : S) : Type 0 where
     pub fits : LineFits l.input
-    pub makes : Makes s l.input l t
+    pub makes : IsLineOfStep s l.input l t
     pub committed : l.committed ≡ m.committed t
 
   -- the steps lead a node from state s to state t
-  abbrev pub Leads : S → List (StepView A) → S → Type 0
-  Leads s [] t = t ≡ s
-  Leads s (l ∷ ls) t = (u : S) × (IsStep s l u × Leads u ls t)
+  abbrev pub LeadsToState : S → List (StepView A) → S → Type 0
+  LeadsToState s [] t = t ≡ s
+  LeadsToState s (l ∷ ls) t = (u : S) × (IsStep s l u × LeadsToState u ls t)
 
   -- each node's steps are a run of that node, and each delivered frame is in an earlier line
   pub record IsBookRun (count : ℕ) (lines : List (LineView A)) : Type 0 where
-    pub nodes : (i : ℕ) → 1 ≤ i → i ≤ count → (t : S) × Leads (m.opening i) (steps_of i lines) t
+    pub nodes : (i : ℕ) → 1 ≤ i → i ≤ count → (t : S) × LeadsToState (m.opening i) (steps_of i lines) t
     pub inside : AllByRecursion (IsInside count) lines
     pub found : AreDeliverable [] lines

@@ -4,8 +4,8 @@
 
 ghost use Rattle.std.specs.Prelude.{◌≡◌, ◌++◌, OnOk, IfOk, IfErr};
 ghost use Rattle.ring_base.specs.declared.fault.Fault.TheVariants.{Memory};
-ghost use Rattle.ring_node_spec.specs.Worlds.{items_of, reply_items};
-ghost use Rattle.ring_session.specs.SessionAnswer.{reply_in};
+ghost use Rattle.ring_node_spec.specs.Worlds.{reply_items_of, reply_items};
+ghost use Rattle.ring_session.specs.SessionAnswer.{decode_reply};
 ghost use Rattle.ring_book_lines.specs.Events.{history_of, items_in};
 
 use crate::cause::Cause;
@@ -22,7 +22,7 @@ use std::alloc::Allocator;
 /// Errors: `Memory` if an allocation fails.
 ///
 /// Rules: Sessions 9
-pub fn history<A: Allocator + Copy + Drop>(
+pub fn history_of_lines<A: Allocator + Copy + Drop>(
     alloc: A,
     lines: &[Line<A>],
 ) -> Result<Vec<Item<A>, A>, Fault>
@@ -60,7 +60,7 @@ fn add_replies<A: Allocator + Copy + Drop>(
     answers: &[TicketAnswer<A>],
     items: &mut Vec<Item<A>, A>,
 ) -> Result<(), Fault>
-    ensures ok { OnOk result (items.new.items ≡ items.old.items ++ items_of answers.now) }
+    ensures ok { OnOk result (items.new.items ≡ items.old.items ++ reply_items_of answers.now) }
     ensures refused { IfErr result (λ fault. fault ≡ Memory) }
 {
     for answered in answers {
@@ -74,7 +74,7 @@ fn add_reply<A: Allocator + Copy + Drop>(
     answered: &TicketAnswer<A>,
     items: &mut Vec<Item<A>, A>,
 ) -> Result<(), Fault>
-    ensures ok { OnOk result (items.new.items ≡ items.old.items ++ reply_items answered.now.call (reply_in answered.now.answer)) }
+    ensures ok { OnOk result (items.new.items ≡ items.old.items ++ reply_items answered.now.call (decode_reply answered.now.answer)) }
     ensures refused { IfErr result (λ fault. fault ≡ Memory) }
 {
     match answered.answer {

@@ -7,32 +7,32 @@
 #![tactic(auto)]
 
 mod answers;
+pub mod book_run_laws;
 mod cause;
-mod encoded;
+mod committed_segments;
+mod encoded_frame;
 mod frame_ref;
-mod frames;
+mod ghost_models;
 mod histories;
 mod input;
-pub mod laws;
 mod line;
-mod log;
-mod models;
+mod line_frames;
 mod orders;
 mod received_frame;
 mod step;
 
 pub use answers::add_answers;
 pub use cause::Cause;
-pub use encoded::EncodedFrame;
+pub use committed_segments::{LogSegment, extend_longest_log};
+pub use encoded_frame::EncodedFrame;
 pub use frame_ref::FrameRef;
-pub use frames::{Frames, StoredFrames};
-pub use histories::history;
+pub use ghost_models::{FrameModel, StepModel};
+pub use histories::history_of_lines;
 pub use input::{LineInput, StepInput};
 pub use line::{Line, has_bytes_at, is_deliverable};
-pub use log::{LogSegment, extend_log};
-pub use models::{FrameModel, StepModel};
-pub use orders::order;
+pub use line_frames::{LineFrames, StoredFrames};
+pub use orders::order_of_segments;
 pub use received_frame::ReceivedFrame;
-pub use ring_order_proof::fit_laws::{call_keeps_law, node_fits_law};
-pub use ring_order_proof::laws::linear_law;
+pub use ring_order_proof::limit_laws::{call_fits_snapshot_law, node_fits_law};
+pub use ring_order_proof::linear_laws::linear_law;
 pub use step::Step;

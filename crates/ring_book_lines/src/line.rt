@@ -5,16 +5,16 @@
 ghost use Rattle.std.specs.Prelude.{◌≡◌, ◌+◌, ◌≤◌, ◌↔◌, Some, IsTrue, length};
 ghost use Rattle.ring_node_spec.specs.NodeLimits.{InputFits};
 ghost use Rattle.ring_wire.specs.Frames.{FrameFits};
-ghost use Rattle.ring_book_lines.specs.Kept.{line_input};
+ghost use Rattle.ring_book_lines.specs.StoredSteps.{line_input};
 ghost use Rattle.ring_book_lines.specs.Lines.{cause_of, frame_to, IsDeliverable, IsFrameAt, HasBytesAt};
 ghost use Rattle.ring_book_lines.specs.declared.input.LineInput.TheVariants.{Received};
 ghost use Rattle.ring_base.specs.Numbers.{max_frame_bytes};
 
 use crate::cause::Cause;
 use crate::frame_ref::FrameRef;
-use crate::frames::Frames;
+use crate::ghost_models::{StepModel, step_model};
 use crate::input::{LineInput, StepInput};
-use crate::models::{StepModel, step_model};
+use crate::line_frames::LineFrames;
 use crate::received_frame::ReceivedFrame;
 use crate::step::Step;
 use bytes::BytesMut;
@@ -37,7 +37,7 @@ pub struct Line<A: Allocator + Copy + Drop = Global> {
     number: u32,
     node: Proc,
     cause: Cause<A>,
-    frames: Frames<A>,
+    frames: LineFrames<A>,
     answers: Vec<TicketAnswer<A>, A>,
     calls: Vec<Call<A>, A>,
     step: Ghost<StepModel<A>>,
@@ -45,7 +45,7 @@ pub struct Line<A: Allocator + Copy + Drop = Global> {
 
 impl<A: Allocator + Copy + Drop> Model for Line<A> {
     ghost use Rattle.std.specs.Prelude.{◌≡◌};
-    ghost use Rattle.ring_book_lines.specs.Kept.{IsStepKept};
+    ghost use Rattle.ring_book_lines.specs.StoredSteps.{IsStepKept};
     ghost use Rattle.ring_book_lines.specs.Steps.{LineView};
 
     ghost Value = { LineView A };
@@ -59,7 +59,7 @@ impl<A: Allocator + Copy + Drop> Model for Line<A> {
 const _: () = prove!(size_of::<Line>() <= 136);
 
 /// Returns what the line records of the input.
-fn cause<A: Allocator + Copy + Drop>(input: StepInput<A>) -> Cause<A>
+fn cause_of_step<A: Allocator + Copy + Drop>(input: StepInput<A>) -> Cause<A>
     ensures { result ≡ cause_of (line_input input) }
 {
     match input {
@@ -121,7 +121,7 @@ impl<A: Allocator + Copy + Drop> Line<A> {
         Line {
             number,
             node,
-            cause: cause(input),
+            cause: cause_of_step(input),
             frames,
             answers,
             calls,
@@ -163,7 +163,7 @@ impl<A: Allocator + Copy + Drop> Line<A> {
     /// The index of a frame in this list, counted from 0, is the `place` in its `FrameRef`.
     ///
     /// Rules: The book and the threads 9 and 10
-    pub fn frames(&self) -> &Frames<A>
+    pub fn frames(&self) -> &LineFrames<A>
         ensures { result.now ≡ self.now.step.frames }
     {
         &self.frames
@@ -274,7 +274,7 @@ fn has_frame_at<A: Allocator + Copy + Drop>(
     ensures room { max_frame_bytes ≤ length text.new.items + text.new.spare }
 {
     match lines.get(at.line as usize) {
-        Some(line) => line.frames().has_frame(at.place, node, frame, text),
+        Some(line) => line.frames().has_frame_for(at.place, node, frame, text),
         None => false,
     }
 }

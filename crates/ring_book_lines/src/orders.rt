@@ -6,11 +6,11 @@ ghost use Rattle.std.specs.Prelude.{◌≡◌, [], ◌++◌, List, OnOk, IfOk, I
 ghost use Rattle.ring_base.specs.declared.fault.Fault.TheVariants.{Memory};
 ghost use Rattle.ring_payload.specs.declared.call.Call.{Call as OneCall};
 ghost use Rattle.ring_session.specs.Deduplicated.{deduplicated};
-ghost use Rattle.ring_session.specs.Effects.{AreOf};
+ghost use Rattle.ring_session.specs.Effects.{AreEffectsOf};
 ghost use Rattle.ring_book_lines.specs.Logs.{calls_at, calls_on};
 
+use crate::committed_segments::LogSegment;
 use crate::line::Line;
-use crate::log::LogSegment;
 use ring_base::Fault;
 use ring_payload::Call;
 use ring_session::Effects;
@@ -24,7 +24,7 @@ use std::alloc::Allocator;
 /// Errors: `Memory` if an allocation fails.
 ///
 /// Rules: Sessions 6 and 10
-pub fn order<A: Allocator + Copy + Drop>(
+pub fn order_of_segments<A: Allocator + Copy + Drop>(
     alloc: A,
     lines: &[Line<A>],
     segments: &[LogSegment],
@@ -45,8 +45,8 @@ fn add_segment<A: Allocator + Copy + Drop>(
     lines: &[Line<A>],
     segment: &LogSegment,
 ) -> Result<(), Fault>
-    ensures ok { (before : List (OneCall A)) → AreOf before effects.old →
-        OnOk result (AreOf (before ++ calls_on segment.now.from (slice_get lines.now segment.now.line)) effects.new) }
+    ensures ok { (before : List (OneCall A)) → AreEffectsOf before effects.old →
+        OnOk result (AreEffectsOf (before ++ calls_on segment.now.from (slice_get lines.now segment.now.line)) effects.new) }
     ensures refused { IfErr result (λ fault. fault ≡ Memory) }
 {
     match lines.get(segment.line as usize) {
@@ -61,8 +61,8 @@ fn add_from<A: Allocator + Copy + Drop>(
     calls: &[Call<A>],
     from: usize,
 ) -> Result<(), Fault>
-    ensures ok { (before : List (OneCall A)) → AreOf before effects.old →
-        OnOk result (AreOf (before ++ drop from calls.now) effects.new) }
+    ensures ok { (before : List (OneCall A)) → AreEffectsOf before effects.old →
+        OnOk result (AreEffectsOf (before ++ drop from calls.now) effects.new) }
     ensures refused { IfErr result (λ fault. fault ≡ Memory) }
 {
     if from >= calls.len() {

@@ -5,7 +5,7 @@
 ghost use Rattle.std.specs.Prelude.{◌≡◌};
 ghost use Rattle.ring_wire.specs.Frames.{FrameFits, encoding_of};
 
-use crate::models::{FrameModel, frame_model};
+use crate::ghost_models::{FrameModel, frame_model};
 use ring_base::Ghost;
 use ring_wire::Frame;
 use std::alloc::{Allocator, Global};

@@ -9,11 +9,11 @@ ghost use Rattle.ring_payload.specs.Calls.{CallFits};
 ghost use Rattle.ring_book_lines.specs.declared.input.LineInput.TheVariants.{Submitted, Received};
 
 use crate::frame_ref::FrameRef;
-use crate::frames::Frames;
 use crate::input::{LineInput, StepInput};
+use crate::line_frames::LineFrames;
 use ring_base::Proc;
 use ring_node_spec::Input;
-use ring_order_proof::fit_laws::call_keeps_law;
+use ring_order_proof::limit_laws::call_fits_snapshot_law;
 use ring_payload::Call;
 use ring_session::TicketAnswer;
 use std::alloc::{Allocator, Global};
@@ -31,7 +31,7 @@ pub struct Step<A: Allocator + Copy + Drop = Global> {
     /// The input of the step, or the submitted call.
     pub(crate) input: StepInput<A>,
     /// The frames sent, in the order of sending.
-    pub(crate) frames: Frames<A>,
+    pub(crate) frames: LineFrames<A>,
     /// The answers given, each with its ticket, in the order given.
     pub(crate) answers: Vec<TicketAnswer<A>, A>,
     /// The newly committed calls, in order, including repeats.
@@ -41,7 +41,7 @@ pub struct Step<A: Allocator + Copy + Drop = Global> {
 }
 
 impl<A: Allocator + Copy + Drop> Model for Step<A> {
-    ghost use Rattle.ring_book_lines.specs.Kept.{line_input};
+    ghost use Rattle.ring_book_lines.specs.StoredSteps.{line_input};
     ghost use Rattle.ring_book_lines.specs.Runs.{LineFits};
     ghost use Rattle.ring_book_lines.specs.Steps.{StepView};
 
@@ -60,7 +60,7 @@ impl<A: Allocator + Copy + Drop> Model for Step<A> {
 }
 
 impl<A: Allocator + Copy + Drop> Step<A> {
-    ghost use Rattle.ring_book_lines.specs.Kept.{line_input};
+    ghost use Rattle.ring_book_lines.specs.StoredSteps.{line_input};
     ghost use Rattle.ring_book_lines.specs.declared.input.LineInput.{LineInput};
     ghost use Rattle.ring_book_lines.specs.declared.input.StepInput.TheVariants.{Full};
 
@@ -73,7 +73,7 @@ impl<A: Allocator + Copy + Drop> Step<A> {
     pub fn new(
         node: Proc,
         input: StepInput<A>,
-        frames: Frames<A>,
+        frames: LineFrames<A>,
         answers: Vec<TicketAnswer<A>, A>,
         calls: Vec<Call<A>, A>,
         committed: usize,
@@ -108,17 +108,17 @@ impl<A: Allocator + Copy + Drop> Step<A> {
     /// call. Does not allocate.
     ///
     /// Rules: The book and the threads 9
-    pub fn called(alloc: A, node: Proc, call: Call<A>, committed: usize) -> Step<A>
+    pub fn submit_of(alloc: A, node: Proc, call: Call<A>, committed: usize) -> Step<A>
         requires { CallFits call }
         ensures { result ≡ record { node = node; input = Submitted call; frames = []; answers = []; calls = []; committed = committed } }
     {
         // A law: no effect at run time. The proof takes from it that a call within the limits of frames is within those
         // of snapshots.
-        call_keeps_law(&call);
+        call_fits_snapshot_law(&call);
         Step::new(
             node,
             StepInput::Full(LineInput::Submitted(call)),
-            Frames::none(alloc),
+            LineFrames::without_frames(alloc),
             Vec::new(alloc),
             Vec::new(alloc),
             committed,
@@ -131,13 +131,13 @@ impl<A: Allocator + Copy + Drop> Step<A> {
     /// not allocate.
     ///
     /// Rules: The book and the threads 9 and 14
-    pub fn stop(alloc: A, node: Proc, at: FrameRef, committed: usize) -> Step<A>
+    pub fn stop_of_node(alloc: A, node: Proc, at: FrameRef, committed: usize) -> Step<A>
         ensures { result ≡ record { node = node; input = Received Stop at; frames = []; answers = []; calls = []; committed = committed } }
     {
         Step::new(
             node,
             StepInput::Full(LineInput::Received(Input::Stop, at)),
-            Frames::none(alloc),
+            LineFrames::without_frames(alloc),
             Vec::new(alloc),
             Vec::new(alloc),
             committed,

@@ -11,7 +11,7 @@ use ring_node::Input;
 use ring_object::{Object, Reply};
 use ring_payload::Call;
 use ring_session::Ticket;
-use ring_things::{Counters, Operation, Outcome, reply_with};
+use ring_things::{Counters, Operation, Outcome, outcome_reply_with};
 use ring_wire::decode_frame;
 use std::alloc::Allocator;
 use std::collections::VecDeque;
@@ -26,7 +26,7 @@ pub fn add_five() -> Operation {
 
 /// Returns the reply to the first such operation: it is done, and the sum is 5.
 pub fn five() -> Reply {
-    reply_with(Outcome::Done, 5)
+    outcome_reply_with(Outcome::Done, 5)
 }
 
 /// The frames that were sent and not delivered, the oldest first, each with one receiver.

@@ -132,7 +132,7 @@ fn one_refused(alloc: Global, nodes: u8, passed: u64) -> (bool, bool) {
 fn requests(alloc: Global, nodes: u8) -> u64 {
     let ample = RefusingHeap::new(alloc, u64::MAX);
     if counted(&ample, nodes) == Ok(true) {
-        ample.requests()
+        ample.request_count()
     } else {
         0
     }
@@ -141,21 +141,21 @@ fn requests(alloc: Global, nodes: u8) -> u64 {
 /// Refuses each request in turn. Returns the number of runs that returned `Memory`, and whether all ran as they should.
 fn refused_in_turn(alloc: Global, nodes: u8) -> (u64, bool) {
     let mut refusals = 0u64;
-    let mut are_right = true;
+    let mut are_replies_right = true;
     for passed in 0..requests(alloc, nodes) {
         let (is_refused, is_right) = one_refused(alloc, nodes, passed);
         refusals = refusals.saturating_add(u64::from(is_refused));
-        are_right = are_right && is_right;
+        are_replies_right = are_replies_right && is_right;
     }
-    (refusals, are_right)
+    (refusals, are_replies_right)
 }
 
 #[test]
 fn each_request_is_refused_in_turn(rt: HostRuntime) {
     for nodes in [1, 3] {
-        let (refusals, are_right) = refused_in_turn(rt.alloc(), nodes);
+        let (refusals, are_replies_right) = refused_in_turn(rt.alloc(), nodes);
         assert!(rt;
-            refusals > 20 && are_right,
+            refusals > 20 && are_replies_right,
             "{refusals} refusals of {nodes} nodes"
         );
     }

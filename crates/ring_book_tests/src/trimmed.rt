@@ -10,7 +10,7 @@ use ring_base::{Fault, Fixed, Kind, Proc, ProcSet};
 use ring_book::{Book, BookName, Opening};
 use ring_object::Object;
 use ring_session::{Answer, Ticket};
-use ring_things::{Counters, Outcome, reply_with};
+use ring_things::{Counters, Outcome, outcome_reply_with};
 use std::alloc::Allocator;
 use std::marker::Brand;
 
@@ -62,7 +62,7 @@ fn shown<O: Object, K: BookName<O::Alloc>>(
 
 /// Returns the answer to an add that raises the counter to this value.
 fn done(count: u64) -> Option<Answer> {
-    Some(Answer::Done(reply_with(Outcome::Done, count)))
+    Some(Answer::Done(outcome_reply_with(Outcome::Done, count)))
 }
 
 /// Submits `many` calls of client 7, from number `first` on, at a processor, and then delivers at most `turns` frames.
@@ -87,7 +87,7 @@ fn form<O: Object, K: BookName<O::Alloc>>(driven: &mut DrivenBook<O, K>) -> Resu
 
 /// Cuts node 3 off, and does 290 calls at nodes 1 and 2.
 fn part<O: Object, K: BookName<O::Alloc>>(driven: &mut DrivenBook<O, K>) -> Result<(), Fault> {
-    driven.cut(ProcSet::only(Proc::new(3)));
+    driven.cut(ProcSet::singleton(Proc::new(3)));
     driven.time_out(1, Kind::Loss)?;
     driven.pump(200)?;
     driven.time_out(1, Kind::Consensus)?;

@@ -1,11 +1,11 @@
 -- Facts about all cores and all frames, in every world after all events: each layer is kept by each move.
 use Rattle.std.proofs.Common.{◌≡◌, ℕ, ◌≤◌, inl, inr, List, [], ◌++◌, refl, ap, sym, subst}
 use Rattle.ring_core_spec.specs.Commits.{Configuration}
-use Rattle.ring_core_spec.specs.State.{Core, opening, formed, alone, all_of}
+use Rattle.ring_core_spec.specs.State.{Core, opening, formed, opening_ring, formed_ring_of}
 use Rattle.ring_core_proof.specs.FactWords.{IsIn}
 use Rattle.ring_core_proof.specs.declared.event.RingEvent.{RingEvent}
-use Rattle.ring_core_proof.specs.Worlds.{Transmission, put, transmissions_from, run, unformed}
-use Rattle.ring_core_proof.specs.Moves.{Move, moved, sends_of, MayMove, IsReceivedFrame}
+use Rattle.ring_core_proof.specs.Worlds.{Transmission, with_core, transmissions_from, run, unformed}
+use Rattle.ring_core_proof.specs.Moves.{Move, core_after_move, sends_of, MayMove, IsReceivedFrame}
 use Rattle.ring_core_proof.proofs.Lifting.{IsKeptInWorlds, kept_run}
 use Rattle.ring_core_proof.proofs.Rises.{alone_rises}
 use Rattle.ring_core_proof.proofs.VisitsByRules.{Turned, moved_turned}
@@ -32,14 +32,14 @@ pub record Holds {A : Type 0} (cores : ℕ → Core A) (frames : List (Transmiss
   pub sent : AreSent visits cores frames
 
 moved_holds : {A : Type 0} → (cores : ℕ → Core A) (frames : List (Transmission A)) (i : ℕ) (m : Move A) → 1 ≤ i → MayMove (IsReceivedFrame frames i) (cores i) m →
-    Holds cores frames → Holds (put cores i (moved (cores i) m)) (frames ++ transmissions_from i (sends_of (cores i) m))
+    Holds cores frames → Holds (with_core cores i (core_after_move (cores i) m)) (frames ++ transmissions_from i (sends_of (cores i) m))
 moved_holds {A} cores frames i m low h p =
     let right = p.sent.right in
     record {
       visits = visits_after p.visits i (cores i) m;
-      turned = put-each (λ q (x : Core A). Turned x) cores i (moved (cores i) m) (λ q n. p.turned q)
+      turned = put-each (λ q (x : Core A). Turned x) cores i (core_after_move (cores i) m) (λ q n. p.turned q)
           (moved_turned (IsReceivedFrame frames i) (cores i) m h (p.turned i));
-      filed = put-each (λ q (x : Core A). Filed x) cores i (moved (cores i) m) (λ q n. p.filed q) (moved_filed (IsReceivedFrame frames i) (cores i) m h (p.filed i));
+      filed = put-each (λ q (x : Core A). Filed x) cores i (core_after_move (cores i) m) (λ q n. p.filed q) (moved_filed (IsReceivedFrame frames i) (cores i) m h (p.filed i));
       rings = rings_moved p.visits cores frames i right p.rings m h;
       chains = chains_moved p.visits cores frames i low right p.rings p.chains p.turned m h;
       texts = texts_moved p.visits cores frames i right p.rings p.texts m h;
@@ -59,7 +59,7 @@ opening_holds {A} n =
       filed = λ q. record { reports_low = tt; one_report = λ x y h. absurd h; plans_low = tt; unplanned = λ s. tt };
       rings = record {
         me = λ q. refl;
-        rising = λ q. alone_rises (alone q);
+        rising = λ q. alone_rises (opening_ring q);
         shared = λ q ring members h. elim h [
           | inl e ↦ (let rep : ring.rep ≡ q = ap (λ (p : Configuration). p.ring.rep)
               e in subst (λ j. IsIn (record { ring = ring; members = members }) (opening {A = A} n j).rings) (sym rep)
@@ -79,7 +79,7 @@ formed_holds {A} n =
       visits = λ r. [];
       turned = λ q. tt;
       filed = λ q. record { reports_low = tt; one_report = λ x y h. absurd h; plans_low = tt; unplanned = λ s. tt };
-      rings = record { me = λ q. refl; rising = λ q. alone_rises (all_of n); shared = λ q ring members h. h };
+      rings = record { me = λ q. refl; rising = λ q. alone_rises (formed_ring_of n); shared = λ q ring members h. h };
       chains = record { rounds = λ r. inl refl; turns = λ q r. refl };
       texts = record { queued = λ q. tt; held = λ q. tt; wraps = λ r. tt };
       safe = record { raises = λ q. tt; reports = λ q. tt };

@@ -15,15 +15,15 @@ use Rattle.ring_wire.specs.declared.frame.Frame.TheVariants.{Token as TokenFrame
 use Rattle.ring_wire.specs.declared.message.Message.{Message}
 use Rattle.ring_wire.specs.declared.token.Token.{Token}
 use Rattle.ring_base.proofs.SameRing.{ring_same, same-self}
-use Rattle.ring_core_spec.specs.Tokens.{TokenVisit, first_token, turns_of, VisitBy, token_arrived, IsNext, AreVisits}
+use Rattle.ring_core_spec.specs.Tokens.{TokenVisit, first_token, visits_in_ring, VisitBy, token_arrived, IsNextVisit, AreVisits}
 use Rattle.ring_core_spec.specs.State.{Core}
 use Rattle.ring_core_spec.specs.Visiting.{to_next}
-use Rattle.ring_core_proof.specs.Worlds.{Transmission, put}
-use Rattle.ring_core_proof.specs.Moves.{Move, Idles, Enters, Learns, Visits, Takes, Installs, turn_with, moved, IsStart, MayVisit, MayMove, IsReceivedFrame}
+use Rattle.ring_core_proof.specs.Worlds.{Transmission, with_core}
+use Rattle.ring_core_proof.specs.Moves.{Move, Idles, Enters, Learns, Visits, Takes, Installs, turn_with, core_after_move, IsStart, MayVisit, MayMove, IsReceivedFrame}
 use Rattle.ring_core_proof.proofs.Rises.{runs_in}
 use Rattle.ring_core_proof.proofs.VisitsByRules.{Turned, moved_turned}
 use Rattle.ring_chain_proof.specs.ChainWords.{Chains, IsRingOf, visits_taken_by, IsRound}
-use Rattle.ring_chain_proof.proofs.GenuineFrames.{HasArrived, IsToken, AreRight, with_visit, visits_after}
+use Rattle.ring_chain_proof.proofs.GenuineFrames.{HasArrived, IsToken, AreRight, history_with_core_visit, visits_after}
 use Rattle.ring_chain_proof.specs.ChainFacts.{AreChains}
 use Rattle.ring_chain_proof.proofs.FactsGrow.{AllGrown, put-each, put_grows, moved_grows}
 use Rattle.ring_chain_proof.proofs.Rings.{AreRings, came_right, one_members}
@@ -108,7 +108,7 @@ module _ {A : Type 0} (visits : Chains A) (cores : ℕ → Core A) (frames : Lis
     abbrev pub visit : VisitBy A
     visit = record { who = i; turn = turn_with (cores i) t fresh requests }
 
-    is_next : IsNext (cores i).running.members t.ring visit (visits t.ring)
+    is_next : IsNextVisit (cores i).running.members t.ring visit (visits t.ring)
     is_next =
         let ms = (cores i).running.members in
         let new = moved_turned (IsReceivedFrame frames i) (cores i) (Visits t fresh requests again queue) h (turned i) in
@@ -121,10 +121,10 @@ module _ {A : Type 0} (visits : Chains A) (cores : ℕ → Core A) (frames : Lis
               (length fresh) visit.turn.forwarded.requests t) (are.me i) (new.0).goes;
         }
 
-    pub visit_moved : AreChains (with_visit visits t.ring visit) (put cores i (moved (cores i) (Visits t fresh requests again queue)))
+    pub visit_moved : AreChains (history_with_core_visit visits t.ring visit) (with_core cores i (core_after_move (cores i) (Visits t fresh requests again queue)))
     visit_moved =
-        let d = moved (cores i) (Visits t fresh requests again queue) in
-        let cores' = put cores i d in
+        let d = core_after_move (cores i) (Visits t fresh requests again queue) in
+        let cores' = with_core cores i d in
         let g : AllGrown cores cores' = put_grows cores i d (moved_grows (cores i) (Visits t fresh requests again queue)) in
         let here : IsRound cores' t.ring (visit ∷ visits t.ring) = record {
           members = (cores i).running.members;
@@ -136,18 +136,18 @@ module _ {A : Type 0} (visits : Chains A) (cores : ℕ → Core A) (frames : Lis
           rounds = λ r. cond_both (same_ring t.ring r) (visit ∷ visits r) (visits r) (λ (vs : List (VisitBy A)). (vs ≡ []) ⊎ IsRound cores' r vs)
               (λ e. inr (subst (λ r. IsRound cores' r (visit ∷ visits r)) (ring_same t.ring r e) here))
               (λ e. round_grows cores cores' g r (visits r) (chains.rounds r));
-          turns = put-each (λ q (x : Core A). (r : RingId) → turns_of r x.turns ≡ visits_taken_by q (with_visit visits t.ring visit r)) cores i d
-              (λ q n r. other_picked (same_ring t.ring r) i q visit.turn (turns_of r (cores q).turns) (visits r) n (chains.turns q r))
-              (λ r. turn_picked (same_ring t.ring r) i visit.turn (turns_of r (cores i).turns) (visits r) (chains.turns i r));
+          turns = put-each (λ q (x : Core A). (r : RingId) → visits_in_ring r x.turns ≡ visits_taken_by q (history_with_core_visit visits t.ring visit r)) cores i d
+              (λ q n r. other_picked (same_ring t.ring r) i q visit.turn (visits_in_ring r (cores q).turns) (visits r) n (chains.turns q r))
+              (λ r. turn_picked (same_ring t.ring r) i visit.turn (visits_in_ring r (cores i).turns) (visits r) (chains.turns i r));
         }
 
     -- the forwarded token is the ring's, and goes to the member whose turn is next
-    pub went_right : IsToken (with_visit visits t.ring visit)
-        (put cores i (moved (cores i) (Visits t fresh requests again queue)))
+    pub went_right : IsToken (history_with_core_visit visits t.ring visit)
+        (with_core cores i (core_after_move (cores i) (Visits t fresh requests again queue)))
         (to_next (cores i) visit.turn.forwarded).to visit.turn.forwarded
     went_right =
         let ms = (cores i).running.members in
-        let d = moved (cores i) (Visits t fresh requests again queue) in
+        let d = core_after_move (cores i) (Visits t fresh requests again queue) in
         let me : (cores i).me ≡ at ms (t.number % size ms) = are.me i ∙ has_turn.here in
         record {
           members = ms;
@@ -161,19 +161,19 @@ module _ {A : Type 0} (visits : Chains A) (cores : ℕ → Core A) (frames : Lis
 
   -- a move that is no visit
   abbrev KeepsTurns : Move A → Type 0
-  KeepsTurns m = (moved (cores i) m).turns ≡ (cores i).turns
+  KeepsTurns m = (core_after_move (cores i) m).turns ≡ (cores i).turns
 
-  quiet : (m : Move A) → KeepsTurns m → AreChains visits (put cores i (moved (cores i) m))
+  quiet : (m : Move A) → KeepsTurns m → AreChains visits (with_core cores i (core_after_move (cores i) m))
   quiet m e =
-      let d = moved (cores i) m in
-      let g : AllGrown cores (put cores i d) = put_grows cores i d (moved_grows (cores i) m) in
+      let d = core_after_move (cores i) m in
+      let g : AllGrown cores (with_core cores i d) = put_grows cores i d (moved_grows (cores i) m) in
       record {
-        rounds = λ r. round_grows cores (put cores i d) g r (visits r) (chains.rounds r);
-        turns = put-each (λ q (x : Core A). (r : RingId) → turns_of r x.turns ≡ visits_taken_by q (visits r)) cores i d
-            (λ q n r. chains.turns q r) (λ r. ap (turns_of r) e ∙ chains.turns i r);
+        rounds = λ r. round_grows cores (with_core cores i d) g r (visits r) (chains.rounds r);
+        turns = put-each (λ q (x : Core A). (r : RingId) → visits_in_ring r x.turns ≡ visits_taken_by q (visits r)) cores i d
+            (λ q n r. chains.turns q r) (λ r. ap (visits_in_ring r) e ∙ chains.turns i r);
       }
 
-  pub chains_moved : (m : Move A) → MayMove (IsReceivedFrame frames i) (cores i) m → AreChains (visits_after visits i (cores i) m) (put cores i (moved (cores i) m))
+  pub chains_moved : (m : Move A) → MayMove (IsReceivedFrame frames i) (cores i) m → AreChains (visits_after visits i (cores i) m) (with_core cores i (core_after_move (cores i) m))
   chains_moved (Visits t fresh requests again queue) h = visit_moved t fresh requests again queue h
   chains_moved (Idles state gathering last_sent queue sends) h = quiet (Idles state gathering last_sent queue sends) refl
   chains_moved (Enters k) h = quiet (Enters k) refl

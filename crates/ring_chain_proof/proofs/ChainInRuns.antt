@@ -13,12 +13,12 @@ use Rattle.ring_wire.specs.declared.token.Token.{Token}
 use Rattle.ring_core_spec.specs.Windows.{of_ring}
 use Rattle.ring_base.proofs.SameRing.{ring_same}
 use Rattle.ring_core_spec.specs.Tokens.{first_token}
-use Rattle.ring_core_spec.specs.State.{Core, all_of, formed}
-use Rattle.ring_core_spec.specs.Visiting.{room_at, new_payloads, repeated, queue_after}
+use Rattle.ring_core_spec.specs.State.{Core, formed_ring_of, formed}
+use Rattle.ring_core_spec.specs.Visiting.{room_at, new_payloads, messages_sent_again, queue_after}
 use Rattle.ring_core_spec.specs.Deciding.{Visit}
 use Rattle.ring_core_proof.specs.FactWords.{IsIn}
 use Rattle.ring_core_proof.specs.declared.event.RingEvent.{RingEvent}
-use Rattle.ring_core_proof.specs.Worlds.{World, run, unformed, ring_formed, acts_on_formed, run_formed}
+use Rattle.ring_core_proof.specs.Worlds.{World, run, unformed, ring_formed, has_effect_on_formed, run_formed}
 use Rattle.ring_core_proof.specs.Texts.{held_by, text_of, HasOneText}
 use Rattle.ring_core_proof.specs.Moves.{MayVisit, IsReceivedFrame}
 use Rattle.ring_core_proof.proofs.InLists.{in-each, in-parts, in-filtered, contains-in}
@@ -36,8 +36,8 @@ first_of_all : (n : ℕ) → 1 ≤ n → at (everybody n) 0 ≡ 1
 first_of_all n some = smallest-least (everybody n) 1 (omega arith, omega arith)
     ((everybody_members n 1).1 (omega arith, some)) (λ j m. ((everybody_members n j).0 m).0)
 
-pub may_start : {A : Type 0} → (n : ℕ) → 1 ≤ n → (t : Token) → t ≡ first_token (all_of n).ring →
-    MayVisit (IsReceivedFrame {A = A} [] 1) (formed n 1) t (new_payloads (formed n 1) t) (repeated (formed n 1) t)
+pub may_start : {A : Type 0} → (n : ℕ) → 1 ≤ n → (t : Token) → t ≡ first_token (formed_ring_of n).ring →
+    MayVisit (IsReceivedFrame {A = A} [] 1) (formed n 1) t (new_payloads (formed n 1) t) (messages_sent_again (formed n 1) t)
     (queue_after Operational (room_at (formed {A = A} n 1) t) [])
 may_start {A} n some t e =
     record {
@@ -55,11 +55,11 @@ may_start {A} n some t e =
 
 pub start_holds : {A : Type 0} → (n : ℕ) → 1 ≤ n → Holds (ring_formed {A = A} n).cores (ring_formed {A = A} n).frames
 start_holds {A} n some =
-    let t = first_token (all_of n).ring in
+    let t = first_token (formed_ring_of n).ring in
     holding.moves (formed {A = A} n) [] 1 (move_of (formed n 1) (Visit t)) (omega arith) (may_start {A = A} n some t refl) (formed_holds n)
 
 pub formed_runs : {A : Type 0} → (n : ℕ) → 1 ≤ n → (events : List (RingEvent A)) → Holds (run_formed n events).cores (run_formed n events).frames
-formed_runs n some events = kept_run Holds holding (ring_formed n) (filter acts_on_formed events) (start_holds n some)
+formed_runs n some events = kept_run Holds holding (ring_formed n) (filter has_effect_on_formed events) (start_holds n some)
 
 -- Text
 

@@ -17,8 +17,8 @@ use Rattle.ring_core_spec.specs.State.{Core, Report}
 use Rattle.ring_core_spec.specs.Views.{front}
 use Rattle.ring_core_spec.specs.Transitions.{old_ring_messages}
 use Rattle.ring_core_proof.specs.FactWords.{IsIn, SomeIs}
-use Rattle.ring_core_proof.specs.Worlds.{Transmission, put}
-use Rattle.ring_core_proof.specs.Moves.{Move, Idles, Enters, Learns, Visits, Takes, Installs, moved, turn_with}
+use Rattle.ring_core_proof.specs.Worlds.{Transmission, with_core}
+use Rattle.ring_core_proof.specs.Moves.{Move, Idles, Enters, Learns, Visits, Takes, Installs, core_after_move, turn_with}
 use Rattle.ring_core_proof.proofs.WithinWindow.{front-append}
 use Rattle.ring_chain_proof.specs.ChainWords.{Chains, IsSafe, IsGenuine}
 use Rattle.ring_chain_proof.proofs.GenuineFrames.{HasArrived, IsRight, AreRight, visits_after}
@@ -36,7 +36,7 @@ pub record HasGrown {A : Type 0} (c d : Core A) : Type 0 where
 pub grown_same : {A : Type 0} → (c : Core A) → HasGrown c c
 grown_same c = record { me = refl; rings = λ p h. h; reports = λ x h. h; plans = λ k h. h; turns = λ v h. h; fronts = λ r. omega arith }
 
-pub moved_grows : {A : Type 0} → (c : Core A) (m : Move A) → HasGrown c (moved c m)
+pub moved_grows : {A : Type 0} → (c : Core A) (m : Move A) → HasGrown c (core_after_move c m)
 moved_grows c (Idles state gathering last_sent queue sends) = record {
   me = refl;
   rings = λ p h. h;
@@ -71,14 +71,14 @@ moved_grows c Installs = record { me = refl; rings = λ p h. h; reports = λ x h
 
 -- a property of each core also holds with the new core in its place
 pub put-each : {A : Type 0} → (Q : ℕ → Core A → Type 0) (cores : ℕ → Core A) (i : ℕ) (d : Core A) → ((q : ℕ) → (q ≡ i → ⊥) → Q q (cores q)) → Q i d →
-    (q : ℕ) → Q q (put cores i d q)
+    (q : ℕ) → Q q (with_core cores i d q)
 put-each Q cores i d old new q =
     cond_both (q == i) d (cores q) (Q q) (λ e. subst (λ x. Q x d) (sym (eqb-true q i e)) new) (λ e. old q (eqb-false q i e))
 
 abbrev pub AllGrown : {A : Type 0} → (ℕ → Core A) → (ℕ → Core A) → Type 0
 AllGrown old new = (q : ℕ) → HasGrown (old q) (new q)
 
-pub put_grows : {A : Type 0} → (cores : ℕ → Core A) (i : ℕ) (d : Core A) → HasGrown (cores i) d → AllGrown cores (put cores i d)
+pub put_grows : {A : Type 0} → (cores : ℕ → Core A) (i : ℕ) (d : Core A) → HasGrown (cores i) d → AllGrown cores (with_core cores i d)
 put_grows cores i d h = put-each (λ q x. HasGrown (cores q) x) cores i d (λ q n. grown_same (cores q)) h
 
 -- each ring's visits are the same, or one more

@@ -11,7 +11,7 @@ use Rattle.ring_wire.specs.declared.frame.Frame.{Frame}
 use Rattle.ring_core_spec.specs.State.{Core, Report, floor}
 use Rattle.ring_core_spec.specs.Views.{own_entry}
 use Rattle.ring_core_proof.specs.FactWords.{IsIn}
-use Rattle.ring_core_proof.specs.Moves.{Move, Idles, Enters, Learns, Visits, Takes, Installs, moved, MayMove}
+use Rattle.ring_core_proof.specs.Moves.{Move, Idles, Enters, Learns, Visits, Takes, Installs, core_after_move, MayMove}
 use Rattle.ring_core_proof.proofs.InLists.{in-each}
 
 pub record IsFiled (state : State) (top : ℕ) (reports : List Report) (plans : List CommitToken) : Type 0 where
@@ -37,7 +37,7 @@ report_more top reports new l low one x y (inr h) (inl b) e =
     ap (λ (r : RingId). r.seq) e in absurd (omega arith))
 report_more top reports new l low one x y (inr h) (inr k) e = one x y h k e
 
-pub moved_filed : {A : Type 0} → (received : Frame A → Type 0) (c : Core A) (m : Move A) → MayMove received c m → Filed c → Filed (moved c m)
+pub moved_filed : {A : Type 0} → (received : Frame A → Type 0) (c : Core A) (m : Move A) → MayMove received c m → Filed c → Filed (core_after_move c m)
 moved_filed received c (Enters k) h f =
     let l : floor c < k.ring.seq = h.above in
     record {

@@ -17,7 +17,7 @@ use Rattle.ring_base.specs.declared.state.State.{State}
 use Rattle.ring_base.specs.declared.state.State.TheVariants.{Recovery, Operational, Stopped}
 use Rattle.ring_base.proofs.Each.{each-weaker, each-append, each-push, each-map, each-get, each-reverse, each-filter}
 use Rattle.ring_base.proofs.ListPlaces.{numbers-append}
-use Rattle.ring_payload.specs.Kinds.{is_user}
+use Rattle.ring_payload.specs.PayloadKinds.{is_user}
 use Rattle.ring_payload.specs.declared.content.Payload.{Payload}
 use Rattle.ring_wire.specs.declared.frame.Frame.{Frame}
 use Rattle.ring_wire.specs.declared.frame.Frame.TheVariants.{Message as MessageFrame, Token as TokenFrame, Join as JoinFrame}
@@ -32,22 +32,22 @@ use Rattle.ring_core_spec.specs.declared.input.Input.TheVariants.{Frame as Frame
 use Rattle.ring_core_spec.specs.declared.out.Out.{Out}
 use Rattle.ring_core_spec.specs.declared.out.Out.TheVariants.{Send as SendOut, Agreed, Safe}
 use Rattle.ring_core_spec.specs.Commits.{Configuration}
-use Rattle.ring_core_spec.specs.State.{Core, OutgoingFrame, TransitionResult, StepResult, all_of, formed, halted, frame_at}
+use Rattle.ring_core_spec.specs.State.{Core, OutgoingFrame, TransitionResult, StepResult, formed_ring_of, formed, halted, frame_at}
 use Rattle.ring_core_spec.specs.Views.{front, mark}
-use Rattle.ring_core_spec.specs.Visiting.{room_at, new_payloads, new_messages, repeated, to_others, to_next, token_forwarded}
+use Rattle.ring_core_spec.specs.Visiting.{room_at, new_payloads, new_messages, messages_sent_again, to_others, to_next, token_forwarded}
 use Rattle.ring_core_spec.specs.Joining.{proposes, proposes_in}
-use Rattle.ring_core_spec.specs.Giving.{installs_in, addressed, sent, agreed_from, safe_from, given, settle, delivered}
+use Rattle.ring_core_spec.specs.Giving.{installs_in, sends_with_receivers, sent, agreed_from, safe_from, agreed_and_safe_of_step, with_installation_if, step_result}
 use Rattle.ring_core_spec.specs.Deciding.{Transition, Ignore, Enqueue, Repeat, Announce, Invite, GiveUp, EnterGather, Agree, MergeJoin}
 use Rattle.ring_core_spec.specs.Deciding.{EnterGatherAndAgree, EnterGatherAndMergeJoin, Take, Visit, Fill, Learn, decide}
 use Rattle.ring_core_spec.specs.Transitions.{old_ring_messages, last_sent_repeated, apply_transition, may_propose_after, with_proposal_if}
 use Rattle.ring_core_spec.specs.Stepping.{ring_step}
-use Rattle.ring_core_proof.specs.LawWords.{HasPassed, IsInputOf}
+use Rattle.ring_core_proof.specs.LawConditions.{HasPassed, IsInputOf}
 use Rattle.ring_core_proof.specs.FactWords.{IsIn}
 use Rattle.ring_core_proof.specs.declared.event.RingEvent.{RingEvent}
 use Rattle.ring_core_proof.specs.declared.event.RingEvent.TheVariants.{Send, Deliver, Timeout, Stop}
-use Rattle.ring_core_proof.specs.Worlds.{Transmission, World, put, transmission_by, transmissions_from, after_step, is_node, stepped_if}
-use Rattle.ring_core_proof.specs.Worlds.{stopped_if, handed_if, handed, is_repeat, happens, run, ring_formed}
-use Rattle.ring_core_proof.specs.Worlds.{acts_on_formed, run_formed}
+use Rattle.ring_core_proof.specs.Worlds.{Transmission, World, with_core, transmission_by, transmissions_from, after_step, is_node, stepped_if}
+use Rattle.ring_core_proof.specs.Worlds.{stopped_if, handed_if, handed, is_repeat, world_after_event, run, ring_formed}
+use Rattle.ring_core_proof.specs.Worlds.{has_effect_on_formed, run_formed}
 use Rattle.ring_core_proof.specs.Moves.{AllAreUsers}
 use Rattle.ring_core_proof.proofs.Guards.{guarded}
 use Rattle.ring_core_proof.proofs.Causes.{caused}
@@ -78,9 +78,9 @@ abbrev Running : State → Type 0
 Running s = (s ≡ Operational) ⊎ (s ≡ Stopped)
 
 pub record IsFormed {A : Type 0} (n : ℕ) (c : Core A) : Type 0 where
-  pub installed : c.installed ≡ all_of n
-  pub rings : c.rings ≡ all_of n ∷ []
-  pub installs : c.installs ≡ all_of n ∷ []
+  pub installed : c.installed ≡ formed_ring_of n
+  pub rings : c.rings ≡ formed_ring_of n ∷ []
+  pub installs : c.installs ≡ formed_ring_of n ∷ []
   pub state : Running c.state
   pub users : Each (λ (x : Message A). IsUsers x) c.held
   pub queued : AllAreUsers c.queue
@@ -117,8 +117,8 @@ one_token {A} u s h e = (let same : u ≡ s = cc in subst (λ (s : OutgoingFrame
 visited_formed : {A : Type 0} → (n : ℕ) (c : Core A) (t : Token) → IsFormed n c → c.state ≡ Operational → IsActed n (apply_transition c (Visit t))
 visited_formed {A} n c t f o =
     let new : Each (λ (x : Message A). IsUsers x) (new_messages c t) = numbered_users t.ring c.me t.seq (new_payloads c t) (fresh_users c t o f.queued) in
-    let old : Each (λ (x : Message A). IsUsers x) (repeated c t) = each-weaker (λ (x : Message A). IsIn x c.held)
-    (λ (x : Message A). IsUsers x) (λ x i. in-each (λ (x : Message A). IsUsers x) x c.held f.users i) (repeated c t)
+    let old : Each (λ (x : Message A). IsUsers x) (messages_sent_again c t) = each-weaker (λ (x : Message A). IsIn x c.held)
+    (λ (x : Message A). IsUsers x) (λ x i. in-each (λ (x : Message A). IsUsers x) x c.held f.users i) (messages_sent_again c t)
     (all_repeats c t) in
     record {
       core = record {
@@ -131,12 +131,12 @@ visited_formed {A} n c t f o =
         queued = queue_kept c.state (room_at c t) c.queue f.queued;
         last_sent = λ s e. one_token (to_next c (token_forwarded c t)) s tt e;
       };
-      sends = each-append (λ (s : OutgoingFrame A). IsQuiet s.frame) (to_others c (repeated c t ++ new_messages c t)) (to_next c (token_forwarded c t) ∷ [])
+      sends = each-append (λ (s : OutgoingFrame A). IsQuiet s.frame) (to_others c (messages_sent_again c t ++ new_messages c t)) (to_next c (token_forwarded c t) ∷ [])
           (each-map (λ (s : OutgoingFrame A). IsQuiet s.frame) (λ x. record {
             to = less c.running.members (only c.me);
             frame = MessageFrame x;
-          }) (repeated c t ++ new_messages c t) (each-append (λ (x : Message A). IsUsers x)
-          (repeated c t) (new_messages c t) old new))
+          }) (messages_sent_again c t ++ new_messages c t) (each-append (λ (x : Message A). IsUsers x)
+          (messages_sent_again c t) (new_messages c t) old new))
           (tt, tt);
     }
 
@@ -197,13 +197,13 @@ abbrev acting : {A : Type 0} → Core A → Input A → TransitionResult A
 acting c input = apply_transition c (decide c input)
 
 step_is : {A : Type 0} → (n : ℕ) (c : Core A) (input : Input A) → IsFormed n (acting c input).core →
-    ring_step c input ≡ record { core = (acting c input).core; outs = sent (acting c input).sends ++ given c (acting c input).core }
+    ring_step c input ≡ record { core = (acting c input).core; outs = sent (acting c input).sends ++ agreed_and_safe_of_step c (acting c input).core }
 unfolding ring_step
 step_is n c input f =
     let d = acting c input in
     let a = decide c input in
     let e : (may_propose_after a && proposes d.core) ≡ false = and_right (may_propose_after a) (proposes d.core) (none_proposed d.core.state f.state d.core) in
-    ap (λ b. delivered c (with_proposal_if b d)) e ∙ ap (λ b. settle b d.core (sent d.sends ++ given c d.core)) (none_installed d.core.state f.state d.core)
+    ap (λ b. step_result c (with_proposal_if b d)) e ∙ ap (λ b. with_installation_if b d.core (sent d.sends ++ agreed_and_safe_of_step c d.core)) (none_installed d.core.state f.state d.core)
 
 acting_grows : {A : Type 0} → (c : Core A) (input : Input A) (r : RingId) → front c r ≤ front (acting c input).core r
 acting_grows {A} c input r = subst (λ (d : TransitionResult A). front c r ≤ front d.core r) (sym (acted c (decide c input)))
@@ -263,20 +263,20 @@ none_sent : {A : Type 0} → (sends : List (OutgoingFrame A)) → filter_map agr
 none_sent [] = refl
 none_sent (s ∷ sends) = none_sent sends
 
-step_tells : {A : Type 0} → (n : ℕ) (c d : Core A) (sends : List (OutgoingFrame A)) → c.installed ≡ all_of n → Each (λ (x : Message A). IsUsers x) d.held →
-    filter_map agreed_of (sent sends ++ given c d) ≡ numbers_from (front c (all_of n).ring + 1) (front d (all_of n).ring - front c (all_of n).ring)
+step_tells : {A : Type 0} → (n : ℕ) (c d : Core A) (sends : List (OutgoingFrame A)) → c.installed ≡ formed_ring_of n → Each (λ (x : Message A). IsUsers x) d.held →
+    filter_map agreed_of (sent sends ++ agreed_and_safe_of_step c d) ≡ numbers_from (front c (formed_ring_of n).ring + 1) (front d (formed_ring_of n).ring - front c (formed_ring_of n).ring)
 step_tells {A} n c d sends e u =
     let r = c.installed.ring in
     let f = front c r in
-    let ring : r ≡ (all_of n).ring = ap (λ (p : Configuration). p.ring) e in
+    let ring : r ≡ (formed_ring_of n).ring = ap (λ (p : Configuration). p.ring) e in
     let safe : filter_map agreed_of (safe_from d r (mark c r)) ≡ [] = cond_both (nat_lt (mark c r) (mark d r))
     (Safe r (mark d r) ∷ []) [] (λ (outs : List (Out A)). filter_map agreed_of outs ≡ []) (λ t. refl) (λ t. refl) in
     let told : filter_map agreed_of (agreed_from d r f) ≡ numbers_from (f + 1) (front d r - f) = all_told d.held r
     (f + 1) (front d r - f) (λ m l k. found_in_front d.held u r m (omega arith) (omega arith)) in
-    let all : filter_map agreed_of (given c d) ≡ numbers_from (f + 1) (front d r - f) =
+    let all : filter_map agreed_of (agreed_and_safe_of_step c d) ≡ numbers_from (f + 1) (front d r - f) =
     filter_map-append agreed_of (agreed_from d r f) (safe_from d r (mark c r))
     ∙ ap (λ xs. filter_map agreed_of (agreed_from d r f) ++ xs) safe ∙ append-nil _ ∙ told in
-    filter_map-append agreed_of (sent sends) (given c d) ∙ ap (λ xs. xs ++ filter_map agreed_of (given c d)) (none_sent (addressed sends)) ∙ all
+    filter_map-append agreed_of (sent sends) (agreed_and_safe_of_step c d) ∙ ap (λ xs. xs ++ filter_map agreed_of (agreed_and_safe_of_step c d)) (none_sent (sends_with_receivers sends)) ∙ all
     ∙ ap (λ r. numbers_from (front c r + 1) (front d r - front c r)) ring
 
 -- Worlds
@@ -284,7 +284,7 @@ step_tells {A} n c d sends e u =
 pub record IsFormedWorld {A : Type 0} (n : ℕ) (w : World A) : Type 0 where
   pub cores : (q : ℕ) → IsFormed n (w.cores q)
   pub frames : Each (λ (f : Transmission A). IsQuiet f.frame) w.frames
-  pub told : (q : ℕ) → agreed_numbers w q ≡ numbers_from 1 (front (w.cores q) (all_of n).ring)
+  pub told : (q : ℕ) → agreed_numbers w q ≡ numbers_from 1 (front (w.cores q) (formed_ring_of n).ring)
 
 -- the outputs of a step of one processor, for each processor
 told_own : {A : Type 0} → (i q : ℕ) (outs : List (Out A)) → i ≡ q → filter_map (agreed_number q) (map (λ o. (i, o)) outs) ≡ filter_map agreed_of outs
@@ -304,20 +304,20 @@ module _ {A : Type 0} (n : ℕ) (w : World A) (f : IsFormedWorld n w) where
   after_formed i input allowed =
       let c = w.cores i in
       let d = acting c input in
-      let r = (all_of n).ring in
+      let r = (formed_ring_of n).ring in
       let a = decide c input in
       let done = acted_formed n c input a (f.cores i) allowed (guarded c input) (caused c input) (asked_by c input a refl (caused c input)) in
       let is = step_is n c input done.core in
-      let outs = sent d.sends ++ given c d.core in
+      let outs = sent d.sends ++ agreed_and_safe_of_step c d.core in
       let v : World A = record w {
-        cores = put w.cores i d.core;
+        cores = with_core w.cores i d.core;
         frames = w.frames ++ filter_map (transmission_by i) outs;
         outs = w.outs ++ map (λ o. (i, o)) outs;
       } in
-      let sends : filter_map (transmission_by i) outs ≡ transmissions_from i d.sends = outs_carried i d.sends (given c d.core) (told_from d.core c.installed.ring _ _) in
+      let sends : filter_map (transmission_by i) outs ≡ transmissions_from i d.sends = outs_carried i d.sends (agreed_and_safe_of_step c d.core) (told_from d.core c.installed.ring _ _) in
       let quiet : Each (λ (g : Transmission A). IsQuiet g.frame) (transmissions_from i d.sends) =
       each-map (λ (g : Transmission A). IsQuiet g.frame) (λ s. record { from = i; to = s.to; frame = s.frame })
-      (addressed d.sends) (each-filter (λ (s : OutgoingFrame A). IsQuiet s.frame) (λ s. not (s.to == nobody))
+      (sends_with_receivers d.sends) (each-filter (λ (s : OutgoingFrame A). IsQuiet s.frame) (λ s. not (s.to == nobody))
       d.sends done.sends) in
       let grown : front c r ≤ front d.core r = acting_grows c input r in
       let told : filter_map agreed_of outs ≡ numbers_from (front c r + 1) (front d.core r - front c r) =
@@ -361,7 +361,7 @@ module _ {A : Type 0} (n : ℕ) (w : World A) (f : IsFormedWorld n w) where
               last_sent = (f.cores i).last_sent;
             });
         frames = f.frames;
-        told = put-each (λ q (x : Core A). agreed_numbers w q ≡ numbers_from 1 (front x (all_of n).ring)) w.cores i (halted c) (λ q m. f.told q) (f.told i);
+        told = put-each (λ q (x : Core A). agreed_numbers w q ≡ numbers_from 1 (front x (formed_ring_of n).ring)) w.cores i (halted c) (λ q m. f.told q) (f.told i);
       }
 
   frame_formed : (b : Bool) (i : ℕ) (frame : Frame A) → IsQuiet frame → IsFormedWorld n (handed_if b w i frame)
@@ -376,21 +376,21 @@ module _ {A : Type 0} (n : ℕ) (w : World A) (f : IsFormedWorld n w) where
   handed_formed i zero (Some g) e = absurd (let x : ⊥ = cc in x)
   handed_formed i (suc m) (Some g) e = frame_formed (has g.to i) i g.frame (quiet_at w.frames m g f.frames e)
 
-  pub event_formed : (e : RingEvent A) → acts_on_formed e ≡ true → IsFormedWorld n (happens w e)
+  pub event_formed : (e : RingEvent A) → has_effect_on_formed e ≡ true → IsFormedWorld n (world_after_event w e)
   event_formed (Send i payload) h = stepped_formed (is_node w i) i (SendInput payload) tt
   event_formed (Deliver i m) h = handed_formed i m (frame_at w.frames m) refl
   event_formed (Timeout i kind) h = stepped_formed (is_node w i) i (TimeInput kind) h
   event_formed (Stop i) h = stopped_formed (is_node w i) i
 
-run_formed_holds : {A : Type 0} → (n : ℕ) (w : World A) (events : List (RingEvent A)) → Each (λ (e : RingEvent A). acts_on_formed e ≡ true) events →
+run_formed_holds : {A : Type 0} → (n : ℕ) (w : World A) (events : List (RingEvent A)) → Each (λ (e : RingEvent A). has_effect_on_formed e ≡ true) events →
     IsFormedWorld n w → IsFormedWorld n (run w events)
 run_formed_holds n w [] h f = f
-run_formed_holds n w (e ∷ events) h f = run_formed_holds n (happens w e) events h.1 (event_formed n w f e h.0)
+run_formed_holds n w (e ∷ events) h f = run_formed_holds n (world_after_event w e) events h.1 (event_formed n w f e h.0)
 
-pub all_act : {A : Type 0} → (events : List (RingEvent A)) → Each (λ (e : RingEvent A). acts_on_formed e ≡ true) (filter acts_on_formed events)
+pub all_act : {A : Type 0} → (events : List (RingEvent A)) → Each (λ (e : RingEvent A). has_effect_on_formed e ≡ true) (filter has_effect_on_formed events)
 all_act [] = tt
-all_act {A} (e ∷ events) = cond_both (acts_on_formed e) (e ∷ filter acts_on_formed events)
-    (filter acts_on_formed events) (Each (λ (e : RingEvent A). acts_on_formed e ≡ true)) (λ t. (t, all_act events))
+all_act {A} (e ∷ events) = cond_both (has_effect_on_formed e) (e ∷ filter has_effect_on_formed events)
+    (filter has_effect_on_formed events) (Each (λ (e : RingEvent A). has_effect_on_formed e ≡ true)) (λ t. (t, all_act events))
     (λ t. all_act events)
 
 -- Openings
@@ -410,8 +410,8 @@ formed_core n q = record {
 pub start_formed : {A : Type 0} → (n : ℕ) → IsFormedWorld {A = A} n (ring_formed n)
 start_formed {A} n =
     let c : Core A = formed n 1 in
-    let t = first_token (all_of n).ring in
-    let r = (all_of n).ring in
+    let t = first_token (formed_ring_of n).ring in
+    let r = (formed_ring_of n).ring in
     let d = apply_transition c (Visit t) in
     let first = visited_formed n c t (formed_core n 1) refl in
     let none : new_payloads c t ≡ [] = packed_none (room_at c t) in
@@ -419,14 +419,14 @@ start_formed {A} n =
     record {
       cores = put-each (λ q (x : Core A). IsFormed n x) (formed n) 1 d.core (λ q m. formed_core n q) first.core;
       frames = each-map (λ (g : Transmission A). IsQuiet g.frame) (λ s. record { from = 1; to = s.to; frame = s.frame })
-          (addressed d.sends) (each-filter (λ (s : OutgoingFrame A). IsQuiet s.frame) (λ s. not (s.to == nobody))
+          (sends_with_receivers d.sends) (each-filter (λ (s : OutgoingFrame A). IsQuiet s.frame) (λ s. not (s.to == nobody))
           d.sends first.sends);
       told = put-each (λ q (x : Core A). [] ≡ numbers_from 1 (front x r)) (formed n) 1 d.core (λ q m. refl) (ap (numbers_from 1) (sym held));
     }
 
 pub formed_worlds : {A : Type 0} → (n : ℕ) (events : List (RingEvent A)) → IsFormedWorld n (run_formed n events)
-formed_worlds n events = run_formed_holds n (ring_formed n) (filter acts_on_formed events) (all_act events) (start_formed n)
+formed_worlds n events = run_formed_holds n (ring_formed n) (filter has_effect_on_formed events) (all_act events) (start_formed n)
 
 pub agreed_ascend : {A : Type 0} → (n i : ℕ) (events : List (RingEvent A)) →
-    agreed_numbers (run_formed n events) i ≡ numbers_from 1 (front ((run_formed n events).cores i) (all_of n).ring)
+    agreed_numbers (run_formed n events) i ≡ numbers_from 1 (front ((run_formed n events).cores i) (formed_ring_of n).ring)
 agreed_ascend n i events = (formed_worlds n events).told i

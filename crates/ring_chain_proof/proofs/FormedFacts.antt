@@ -4,11 +4,11 @@ use Rattle.std.specs.Prelude.{filter}
 use Rattle.ring_base.specs.Members.{everybody_members}
 use Rattle.ring_base.specs.declared.state.State.TheVariants.{Commit, Recovery, Operational}
 use Rattle.ring_core_spec.specs.Tokens.{first_token}
-use Rattle.ring_core_spec.specs.State.{Core, all_of, formed}
+use Rattle.ring_core_spec.specs.State.{Core, formed_ring_of, formed}
 use Rattle.ring_core_spec.specs.Deciding.{Visit}
 use Rattle.ring_core_proof.specs.declared.event.RingEvent.{RingEvent}
-use Rattle.ring_core_proof.specs.Worlds.{ring_formed, acts_on_formed, run_formed}
-use Rattle.ring_core_proof.specs.Moves.{Move, Idles, Enters, Learns, Visits, Takes, Installs, moved, IsReceivedFrame}
+use Rattle.ring_core_proof.specs.Worlds.{ring_formed, has_effect_on_formed, run_formed}
+use Rattle.ring_core_proof.specs.Moves.{Move, Idles, Enters, Learns, Visits, Takes, Installs, core_after_move, IsReceivedFrame}
 use Rattle.ring_core_proof.proofs.KeptByMoves.{IsKeptByMoves, Everywhere, everywhere}
 use Rattle.ring_core_proof.proofs.StepsAreMoves.{move_of}
 use Rattle.ring_core_proof.specs.CoreInvariants.{LocalFacts}
@@ -20,7 +20,7 @@ use Rattle.ring_chain_proof.proofs.ChainInRuns.{may_start, formed_runs}
 abbrev HoldsWithin : {A : Type 0} → ℕ → Core A → Type 0
 HoldsWithin n c = c.me ≤ n → Holds c
 
-moved_me : {A : Type 0} → (n : ℕ) (c : Core A) (m : Move A) → (moved c m).me ≤ n → c.me ≤ n
+moved_me : {A : Type 0} → (n : ℕ) (c : Core A) (m : Move A) → (core_after_move c m).me ≤ n → c.me ≤ n
 moved_me n c (Idles state gathering last_sent queue sends) l = l
 moved_me n c (Enters k) l = l
 moved_me n c (Learns k) l = l
@@ -70,14 +70,14 @@ holds_formed n q l =
 holds_started : {A : Type 0} → (n : ℕ) → 1 ≤ n → Everywhere (HoldsWithin n) (ring_formed {A = A} n)
 holds_started {A} n some =
     let c : Core A = formed n 1 in
-    let m = move_of c (Visit (first_token (all_of n).ring)) in
-    put-each (λ q (x : Core A). HoldsWithin n x) (formed n) 1 (moved c m) (λ q other l. holds_formed n q l)
-    (λ l. moved_holds (IsReceivedFrame [] 1) c m (may_start {A = A} n some (first_token (all_of n).ring) refl) (holds_formed n 1 some))
+    let m = move_of c (Visit (first_token (formed_ring_of n).ring)) in
+    put-each (λ q (x : Core A). HoldsWithin n x) (formed n) 1 (core_after_move c m) (λ q other l. holds_formed n q l)
+    (λ l. moved_holds (IsReceivedFrame [] 1) c m (may_start {A = A} n some (first_token (formed_ring_of n).ring) refl) (holds_formed n 1 some))
 
 pub formed_facts : {A : Type 0} → (n i : ℕ) (events : List (RingEvent A)) → 1 ≤ i → i ≤ n → LocalFacts ((run_formed n events).cores i)
 formed_facts {A} n i events low high =
     let some : 1 ≤ n = omega arith in
     let me : ((run_formed n events).cores i).me ≡ i = (formed_runs n some events).rings.me i in
     let all : Everywhere (HoldsWithin n) (run_formed n events) =
-    everywhere (HoldsWithin n) (within n) (ring_formed n) (filter acts_on_formed events) (holds_started n some) in
+    everywhere (HoldsWithin n) (within n) (ring_formed n) (filter has_effect_on_formed events) (holds_started n some) in
     local_of ((run_formed n events).cores i) (all i (omega (arith, me)))

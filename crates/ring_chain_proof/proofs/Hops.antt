@@ -19,7 +19,7 @@ use Rattle.ring_core_spec.specs.Commits.{same_entry, receiver, is_own}
 use Rattle.ring_core_spec.specs.State.{Core, Report}
 use Rattle.ring_core_proof.specs.FactWords.{IsIn}
 use Rattle.ring_core_proof.specs.Worlds.{Transmission, World}
-use Rattle.ring_core_proof.specs.CommitRounds.{all_pairs, report_for, are_reports, is_handed_on, is_hop, is_hop_if_commit}
+use Rattle.ring_core_proof.specs.CommitRounds.{all_pairs, report_for, are_reports_of_members, is_handed_on, is_hop, is_hop_if_commit}
 use Rattle.ring_core_proof.specs.CommitRounds.{are_hops, commit_in, commits_of, agree_on_members}
 use Rattle.ring_chain_proof.specs.ChainWords.{Chains, IsRingOf}
 use Rattle.ring_chain_proof.proofs.GenuineFrames.{IsHop, IsRight, AreRight}
@@ -54,14 +54,14 @@ report_found ring e (r ∷ rs) f h =
 reports_true : {A : Type 0} → (cores : ℕ → Core A) → ((q : ℕ) → Filed (cores q)) → (ring : RingId) (is : List ℕ) (es : List CommitEntry) →
     length es ≤ length is →
     ((x : ℕ) (e : CommitEntry) → slice_get es x ≡ Some e → IsIn (record { ring = ring; entry = e }) (cores (slice_index is x)).reports) →
-    are_reports cores ring is es ≡ true
+    are_reports_of_members cores ring is es ≡ true
 reports_true cores filed ring is [] l h = refl
 reports_true cores filed ring [] (e ∷ es) l h = absurd (omega arith)
 reports_true cores filed ring (i ∷ is) (e ∷ es) l h =
     let mine : IsIn (record { ring = ring; entry = e }) (cores i).reports = h 0 e refl in
     let found : report_for ring (cores i).reports ≡ Some e =
     report_found ring e (cores i).reports (λ x k s. ap (λ (x : Report). x.entry) ((filed i).one_report x (record { ring = ring; entry = e }) k mine s)) mine in
-    and_from (is_own e (report_for ring (cores i).reports)) (are_reports cores ring is es)
+    and_from (is_own e (report_for ring (cores i).reports)) (are_reports_of_members cores ring is es)
     (subst (λ o. is_own e o ≡ true) (sym found) (entry-self e))
     (reports_true cores filed ring is es (omega arith) (λ x d s. h (suc x) d s))
 
@@ -76,7 +76,7 @@ module _ {A : Type 0} (visits : Chains A) (cores : ℕ → Core A) (filed : (q :
       (length k.entries == min k.hop (size k.members)) a (eq-eqb (length k.entries) (min k.hop (size k.members))
       count) in
       and_from (nat_le 1 k.hop && nat_le k.hop (2 * size k.members)
-      && (length k.entries == min k.hop (size k.members))) (are_reports cores k.ring (elements k.members) k.entries) b
+      && (length k.entries == min k.hop (size k.members))) (are_reports_of_members cores k.ring (elements k.members) k.entries) b
       (reports_true cores filed k.ring (elements k.members) k.entries (omega arith) h.reports)
 
   handed_true : (f : Transmission A) (k : CommitToken) → IsHop cores f.from f.to k → is_handed_on f k ≡ true

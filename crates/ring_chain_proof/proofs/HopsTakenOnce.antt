@@ -27,19 +27,19 @@ use Rattle.ring_core_spec.specs.declared.out.Out.{Out}
 use Rattle.ring_core_spec.specs.State.{Core, TransitionResult, floor, frame_at}
 use Rattle.ring_core_spec.specs.Visiting.{accepts}
 use Rattle.ring_core_spec.specs.Joining.{proposes}
-use Rattle.ring_core_spec.specs.Giving.{may_install, settle}
+use Rattle.ring_core_spec.specs.Giving.{may_install, with_installation_if}
 use Rattle.ring_core_spec.specs.Deciding.{Transition, Ignore, Enqueue, Repeat, Announce, Invite, GiveUp, EnterGather, Agree, MergeJoin}
 use Rattle.ring_core_spec.specs.Deciding.{EnterGatherAndAgree, EnterGatherAndMergeJoin, Take, Visit, Fill, Learn, decide}
 use Rattle.ring_core_spec.specs.Transitions.{apply_transition, may_propose_after, with_proposal_if}
 use Rattle.ring_core_spec.specs.Stepping.{ring_step}
-use Rattle.ring_core_proof.specs.LawWords.{HasPassed, IsInputOf}
+use Rattle.ring_core_proof.specs.LawConditions.{HasPassed, IsInputOf}
 use Rattle.ring_core_proof.specs.FactWords.{IsIn}
 use Rattle.ring_core_proof.specs.declared.event.RingEvent.{RingEvent}
 use Rattle.ring_core_proof.specs.declared.event.RingEvent.TheVariants.{Send, Deliver, Timeout, Stop}
-use Rattle.ring_core_proof.specs.Worlds.{Transmission, World, is_node, stepped_if, handed_if, handed, happens, run, unformed}
+use Rattle.ring_core_proof.specs.Worlds.{Transmission, World, is_node, stepped_if, handed_if, handed, world_after_event, run, unformed}
 use Rattle.ring_core_proof.specs.CommitRounds.{CommitRounds, all_pairs, Taking, is_ignored, taken_unless, taken_at, taken_if}
 use Rattle.ring_core_proof.specs.CommitRounds.{taken_of, taken_in, takings, are_other_hops}
-use Rattle.ring_core_proof.specs.Moves.{Enters, Installs, moved, IsReceivedFrame}
+use Rattle.ring_core_proof.specs.Moves.{Enters, Installs, core_after_move, IsReceivedFrame}
 use Rattle.ring_core_proof.proofs.Guards.{guarded, one_position}
 use Rattle.ring_core_proof.proofs.Causes.{caused}
 use Rattle.ring_core_proof.proofs.StepsAreMoves.{learns, proposed_token}
@@ -73,7 +73,7 @@ proposed_grows : {A : Type 0} → (b : Bool) (d : TransitionResult A) → HasGro
 proposed_grows false d = grown_same d.core
 proposed_grows true d = moved_grows d.core (Enters (proposed_token d.core))
 
-settled_grows : {A : Type 0} → (b : Bool) (c : Core A) (outs : List (Out A)) → HasGrown c (settle b c outs).core
+settled_grows : {A : Type 0} → (b : Bool) (c : Core A) (outs : List (Out A)) → HasGrown c (with_installation_if b c outs).core
 settled_grows false c outs = grown_same c
 settled_grows true c outs = moved_grows c Installs
 
@@ -88,13 +88,13 @@ step_grows c input =
 growing : {A : Type 0} → (base : ℕ → Core A) → IsKeptInWorlds (λ cores frames. AllGrown base cores)
 growing base = record {
   moves = λ cores frames i m low h g. λ q. grown_then (base q) (cores q) _ (g q)
-      (put_grows cores i (moved (cores i) m) (moved_grows (cores i) m) q);
+      (put_grows cores i (core_after_move (cores i) m) (moved_grows (cores i) m) q);
 }
 
-pub event_grows : {A : Type 0} → (w : World A) (e : RingEvent A) → AllGrown w.cores (happens w e).cores
+pub event_grows : {A : Type 0} → (w : World A) (e : RingEvent A) → AllGrown w.cores (world_after_event w e).cores
 event_grows w e = kept_run (λ cores frames. AllGrown w.cores cores) (growing w.cores) w (e ∷ []) (λ q. grown_same (w.cores q))
 
-pub event_holds : {A : Type 0} → (w : World A) (e : RingEvent A) → Holds w.cores w.frames → Holds (happens w e).cores (happens w e).frames
+pub event_holds : {A : Type 0} → (w : World A) (e : RingEvent A) → Holds w.cores w.frames → Holds (world_after_event w e).cores (world_after_event w e).frames
 event_holds w e p = kept_run Holds holding w (e ∷ []) p
 
 -- The fact that shows that a hop was taken
@@ -122,7 +122,7 @@ first_hop c k g =
     let p = and_parts (nat_lt k.hop (size k.members) && (k.members == candidates c.gathering)) (nat_lt (floor c) k.ring.seq) g.passes in
     (ltb-true _ _ (and_parts (nat_lt k.hop (size k.members)) (k.members == candidates c.gathering) p.0).0, ltb-true _ _ p.1)
 
-start_hop : {A : Type 0} → (c : Core A) (input : Input A) (t : Token) (s : Rattle.ring_core_proof.specs.LawWords.StartsWith c input t) →
+start_hop : {A : Type 0} → (c : Core A) (input : Input A) (t : Token) (s : Rattle.ring_core_proof.specs.LawConditions.StartsWith c input t) →
     s.commit.hop ≡ 2 * size s.commit.members
 start_hop c input t s = eqb-true _ _ (and_parts (s.commit.hop == 2 * size s.commit.members) (is_of c.running s.commit) s.starts).0
 
@@ -238,19 +238,19 @@ record IsTaking {A : Type 0} (w : World A) (e : RingEvent A) (t : Taking) : Type
   pub who : t.who ≡ (w.cores i).me
   pub taken : decide (w.cores i) (FrameInput (CommitFrame t.commit)) ≡ Ignore → ⊥
   pub received : IsReceivedFrame w.frames i (CommitFrame t.commit)
-  pub after : (happens w e).cores i ≡ (ring_step (w.cores i) (FrameInput (CommitFrame t.commit))).core
+  pub after : (world_after_event w e).cores i ≡ (ring_step (w.cores i) (FrameInput (CommitFrame t.commit))).core
 
 abbrev TakesOne : {A : Type 0} → World A → RingEvent A → List Taking → Type 0
 TakesOne w e ts = (ts ≡ []) ⊎ ((t : Taking) × (ts ≡ t ∷ []) × IsTaking w e t)
 
 module _ {A : Type 0} (w : World A) (i n : ℕ) where
   taking_unless : (b : Bool) (k : CommitToken) → is_ignored (decide (w.cores i) (FrameInput (CommitFrame k))) ≡ b → IsReceivedFrame w.frames i (CommitFrame k) →
-      (happens w (Deliver i n)).cores i ≡ (ring_step (w.cores i) (FrameInput (CommitFrame k))).core → TakesOne w (Deliver i n) (taken_unless b (w.cores i) k)
+      (world_after_event w (Deliver i n)).cores i ≡ (ring_step (w.cores i) (FrameInput (CommitFrame k))).core → TakesOne w (Deliver i n) (taken_unless b (w.cores i) k)
   taking_unless true k e received after = inl refl
   taking_unless false k e received after =
       inr (_, refl, record { i = i; who = refl; taken = not_ignored (decide (w.cores i) (FrameInput (CommitFrame k))) e; received = received; after = after })
 
-  taking_frame : (frame : Frame A) → IsReceivedFrame w.frames i frame → (happens w (Deliver i n)).cores i ≡ (ring_step (w.cores i) (FrameInput frame)).core →
+  taking_frame : (frame : Frame A) → IsReceivedFrame w.frames i frame → (world_after_event w (Deliver i n)).cores i ≡ (ring_step (w.cores i) (FrameInput frame)).core →
       TakesOne w (Deliver i n) (taken_at (w.cores i) frame)
   taking_frame (CommitFrame k) received after = taking_unless (is_ignored (decide (w.cores i) (FrameInput (CommitFrame k)))) k refl received after
   taking_frame (MessageFrame x) received after = inl refl
@@ -258,7 +258,7 @@ module _ {A : Type 0} (w : World A) (i n : ℕ) where
   taking_frame (JoinFrame j) received after = inl refl
 
   stepped_here : (f : Transmission A) → frame_at w.frames n ≡ Some f → has f.to i ≡ true → is_node w i ≡ true →
-      (happens w (Deliver i n)).cores i ≡ (ring_step (w.cores i) (FrameInput f.frame)).core
+      (world_after_event w (Deliver i n)).cores i ≡ (ring_step (w.cores i) (FrameInput f.frame)).core
   stepped_here f e h k =
       ap (λ o. (handed w i o).cores i) e ∙ ap (λ b. (handed_if b w i f.frame).cores i) h
       ∙ ap (λ b. (stepped_if b w i (FrameInput f.frame)).cores i) k ∙ put-here w.cores i
@@ -304,13 +304,13 @@ module _ {A : Type 0} (w : World A) (p : Holds w.cores w.frames) (e : RingEvent 
   new_here : receiver u.commit ≡ new.i
   new_here = one_position (w.cores new.i) u.commit new.taken ∙ p.rings.me new.i
 
-  new_taken : HasTaken (happens w e).cores u
+  new_taken : HasTaken (world_after_event w e).cores u
   new_taken =
       let who : u.who ≡ new.i = new.who ∙ p.rings.me new.i in
       record {
         ring_of = (event_grows w e u.commit.ring.rep).rings _ new_ring;
         here = new_here ∙ sym who;
-        took = subst (λ q. Took ((happens w e).cores q) u.commit.ring u.commit.hop u.commit.members) (sym who)
+        took = subst (λ q. Took ((world_after_event w e).cores q) u.commit.ring u.commit.hop u.commit.members) (sym who)
             (subst (λ (c : Core A). Took c u.commit.ring u.commit.hop u.commit.members) (sym new.after) (step_took (w.cores new.i) u.commit new.taken));
       }
 
@@ -345,22 +345,22 @@ others : {A : Type 0} → (w : World A) → Holds w.cores w.frames → (t : Taki
     list_all (are_other_hops t) (takings w events) ≡ true
 others w p t h [] = refl
 others w p t h (e ∷ events) =
-    list_all-append (are_other_hops t) (taken_in w e) (takings (happens w e) events)
-    ∙ and_from (list_all (are_other_hops t) (taken_in w e)) (list_all (are_other_hops t) (takings (happens w e) events))
+    list_all-append (are_other_hops t) (taken_in w e) (takings (world_after_event w e) events)
+    ∙ and_from (list_all (are_other_hops t) (taken_in w e)) (list_all (are_other_hops t) (takings (world_after_event w e) events))
     (others_of w p e t h (taken_in w e) (taking_in w e))
-    (others (happens w e) (event_holds w e p) t (taken_grows w.cores (happens w e).cores (event_grows w e) t h) events)
+    (others (world_after_event w e) (event_holds w e p) t (taken_grows w.cores (world_after_event w e).cores (event_grows w e) t h) events)
 
 pub once_in : {A : Type 0} → (w : World A) → Holds w.cores w.frames → (events : List (RingEvent A)) → all_pairs are_other_hops (takings w events) ≡ true
 once_in w p [] = refl
 once_in {A} w p (e ∷ events) =
-    let rest = takings (happens w e) events in
+    let rest = takings (world_after_event w e) events in
     let after = event_holds w e p in
     elim (taking_in w e) [
-      | inl none ↦ subst (λ ts. all_pairs are_other_hops (ts ++ rest) ≡ true) (sym none) (once_in (happens w e) after events)
+      | inl none ↦ subst (λ ts. all_pairs are_other_hops (ts ++ rest) ≡ true) (sym none) (once_in (world_after_event w e) after events)
       | inr one ↦ subst (λ ts. all_pairs are_other_hops (ts ++ rest) ≡ true) (sym one.1)
           (and_from (list_all (are_other_hops one.0) rest) (all_pairs are_other_hops rest)
-          (others (happens w e) after one.0 (new_taken w p e one.0 one.2) events)
-          (once_in (happens w e) after events))
+          (others (world_after_event w e) after one.0 (new_taken w p e one.0 one.2) events)
+          (once_in (world_after_event w e) after events))
     ]
 
 -- All five facts of the commit token's rounds

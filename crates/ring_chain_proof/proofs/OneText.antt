@@ -12,7 +12,7 @@ use Rattle.ring_base.specs.declared.state.State.{State}
 use Rattle.ring_base.specs.declared.state.State.TheVariants.{Gather, Commit, Recovery, Operational, Stopped}
 use Rattle.ring_base.proofs.Each.{each-weaker, each-append, each-reverse}
 use Rattle.ring_base.proofs.SameRing.{same-self}
-use Rattle.ring_payload.specs.Kinds.{is_user}
+use Rattle.ring_payload.specs.PayloadKinds.{is_user}
 use Rattle.ring_payload.specs.declared.content.Payload.{Payload}
 use Rattle.ring_payload.specs.declared.content.Payload.TheVariants.{Call, Wrapped, End, Head, Part, Pack, Snap}
 use Rattle.ring_payload.specs.declared.content.Wrapped.{Wrapped as WrappedMessage}
@@ -26,13 +26,13 @@ use Rattle.ring_core_spec.specs.State.{Core}
 use Rattle.ring_core_spec.specs.Views.{mark}
 use Rattle.ring_core_spec.specs.Transitions.{old_ring_messages}
 use Rattle.ring_core_proof.specs.FactWords.{IsIn, SomeIs}
-use Rattle.ring_core_proof.specs.Worlds.{Transmission, put}
-use Rattle.ring_core_proof.specs.Moves.{Move, Idles, Enters, Learns, Visits, Takes, Installs, turn_with, moved, AllAreUsers}
+use Rattle.ring_core_proof.specs.Worlds.{Transmission, with_core}
+use Rattle.ring_core_proof.specs.Moves.{Move, Idles, Enters, Learns, Visits, Takes, Installs, turn_with, core_after_move, AllAreUsers}
 use Rattle.ring_core_proof.specs.Moves.{IsWrapping, MayEnd, MayVisit, MayMove, IsReceivedFrame}
 use Rattle.ring_core_proof.proofs.InLists.{in-each, each-in, some-each}
 use Rattle.ring_core_proof.proofs.WrapsAndEnd.{found_in}
 use Rattle.ring_chain_proof.specs.ChainWords.{Chains, IsGenuine, WrapsGenuine}
-use Rattle.ring_chain_proof.proofs.GenuineFrames.{AreRight, with_visit, visits_after}
+use Rattle.ring_chain_proof.proofs.GenuineFrames.{AreRight, history_with_core_visit, visits_after}
 use Rattle.ring_chain_proof.proofs.FactsGrow.{ChainsGrow, visits_grow, put-each}
 use Rattle.ring_chain_proof.proofs.Rings.{AreRings, came_right}
 use Rattle.ring_chain_proof.specs.ChainFacts.{AreChains}
@@ -160,7 +160,7 @@ module _ {A : Type 0} (visits : Chains A) (cores : ℕ → Core A) (frames : Lis
   gives_genuine Operational c x g = tt
   gives_genuine Stopped c x g = tt
 
-  took_genuine : (x : Message A) → IsReceivedFrame frames i (MessageFrame x) → Each (IsGenuine visits) (moved (cores i) (Takes x)).held
+  took_genuine : (x : Message A) → IsReceivedFrame frames i (MessageFrame x) → Each (IsGenuine visits) (core_after_move (cores i) (Takes x)).held
   took_genuine x received =
       let c = cores i in
       let f = came_right visits cores frames i (MessageFrame x) right received in
@@ -173,7 +173,7 @@ module _ {A : Type 0} (visits : Chains A) (cores : ℕ → Core A) (frames : Lis
     new_visit = record { who = i; turn = turn_with (cores i) t fresh requests }
 
     abbrev after : Chains A
-    after = with_visit visits t.ring new_visit
+    after = history_with_core_visit visits t.ring new_visit
 
     new_in : (x : Message A) (r : RingId) → r ≡ t.ring → IsIn x (numbered t.ring i t.seq fresh) → NumberedIn r x (after r)
     new_in x r e h =
@@ -222,7 +222,7 @@ module _ {A : Type 0} (visits : Chains A) (cores : ℕ → Core A) (frames : Lis
 
   -- Moves
 
-  held_moved : (m : Move A) → MayMove (IsReceivedFrame frames i) (cores i) m → Each (IsGenuine (visits_after visits i (cores i) m)) (moved (cores i) m).held
+  held_moved : (m : Move A) → MayMove (IsReceivedFrame frames i) (cores i) m → Each (IsGenuine (visits_after visits i (cores i) m)) (core_after_move (cores i) m).held
   held_moved (Visits t fresh requests again queue) h =
       let g = visits_grow visits i (cores i) (Visits t fresh requests again queue) in
       let new = numbered t.ring (cores i).me t.seq fresh in
@@ -235,7 +235,7 @@ module _ {A : Type 0} (visits : Chains A) (cores : ℕ → Core A) (frames : Lis
   held_moved (Learns k) h = texts.held i
   held_moved Installs h = texts.held i
 
-  queued_moved : (m : Move A) → MayMove (IsReceivedFrame frames i) (cores i) m → AllAreUsers (moved (cores i) m).queue
+  queued_moved : (m : Move A) → MayMove (IsReceivedFrame frames i) (cores i) m → AllAreUsers (core_after_move (cores i) m).queue
   queued_moved (Visits t fresh requests again queue) h = h.queued (texts.queued i)
   queued_moved (Idles state gathering last_sent queue sends) h = h.queued (texts.queued i)
   queued_moved (Takes x) h = texts.queued i
@@ -257,10 +257,10 @@ module _ {A : Type 0} (visits : Chains A) (cores : ℕ → Core A) (frames : Lis
   wraps_moved (Takes x) h r = texts.wraps r
   wraps_moved Installs h r = texts.wraps r
 
-  pub texts_moved : (m : Move A) → MayMove (IsReceivedFrame frames i) (cores i) m → AreTexts (visits_after visits i (cores i) m) (put cores i (moved (cores i) m))
+  pub texts_moved : (m : Move A) → MayMove (IsReceivedFrame frames i) (cores i) m → AreTexts (visits_after visits i (cores i) m) (with_core cores i (core_after_move (cores i) m))
   texts_moved m h =
       let g = visits_grow visits i (cores i) m in
-      let d = moved (cores i) m in
+      let d = core_after_move (cores i) m in
       record {
         queued = put-each (λ q (x : Core A). AllAreUsers x.queue) cores i d (λ q n. texts.queued q) (queued_moved m h);
         held = put-each (λ q (x : Core A). Each (IsGenuine (visits_after visits i (cores i) m)) x.held) cores i d

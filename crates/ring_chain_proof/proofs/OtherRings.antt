@@ -16,7 +16,7 @@ use Rattle.ring_wire.specs.declared.message.Message.{Message}
 use Rattle.ring_core_spec.specs.Windows.{holds, front_of, is_new}
 use Rattle.ring_core_spec.proofs.Windows.{front_is, front_only}
 use Rattle.ring_base.proofs.SameRing.{ring_same, other_ring}
-use Rattle.ring_core_spec.specs.Tokens.{TokenVisit, Raise, turns_of, mark_by, forwarded_in, raised_to, safe_mark}
+use Rattle.ring_core_spec.specs.Tokens.{TokenVisit, MarkRaise, visits_in_ring, mark_from_arus, forwarded_in, raised_to, safe_mark}
 use Rattle.ring_core_spec.specs.Recoveries.{inner_if_new, inner_messages}
 use Rattle.ring_core_spec.specs.State.{Core}
 use Rattle.ring_core_spec.specs.Views.{mark}
@@ -42,18 +42,18 @@ front_other xs held ring h =
       next = sym (holds_other xs held ring (suc (front_of (xs ++ held) ring)) h) ∙ f.next;
     })
 
-pub turns_other : {A : Type 0} → (v : TokenVisit A) (turns : List (TokenVisit A)) (raises : List Raise) (ring : RingId) → (v.received.ring ≡ ring → ⊥) →
+pub turns_other : {A : Type 0} → (v : TokenVisit A) (turns : List (TokenVisit A)) (raises : List MarkRaise) (ring : RingId) → (v.received.ring ≡ ring → ⊥) →
     safe_mark (v ∷ turns) raises ring ≡ safe_mark turns raises ring
 turns_other {A} v turns raises ring n =
-    ap (λ (ts : List (TokenVisit A)). max (mark_by (map (λ (v : TokenVisit A). v.forwarded.aru) ts)) (raised_to ring raises))
-    (cond-false (same_ring v.received.ring ring) (v ∷ turns_of ring turns) (turns_of ring turns)
+    ap (λ (ts : List (TokenVisit A)). max (mark_from_arus (map (λ (v : TokenVisit A). v.forwarded.aru) ts)) (raised_to ring raises))
+    (cond-false (same_ring v.received.ring ring) (v ∷ visits_in_ring ring turns) (visits_in_ring ring turns)
     (other_ring v.received.ring ring n))
 
-pub raises_other : {A : Type 0} → (x : Raise) (turns : List (TokenVisit A)) (raises : List Raise) (ring : RingId) → (x.ring ≡ ring → ⊥) →
+pub raises_other : {A : Type 0} → (x : MarkRaise) (turns : List (TokenVisit A)) (raises : List MarkRaise) (ring : RingId) → (x.ring ≡ ring → ⊥) →
     safe_mark turns (x ∷ raises) ring ≡ safe_mark turns raises ring
 raises_other {A} x turns raises ring n =
-    let rest = filter (λ (x : Raise). same_ring x.ring ring) raises in
-    ap (λ (rs : List Raise). max (mark_by (forwarded_in ring turns)) (greatest (map (λ (x : Raise). x.mark) rs)))
+    let rest = filter (λ (x : MarkRaise). same_ring x.ring ring) raises in
+    ap (λ (rs : List MarkRaise). max (mark_from_arus (forwarded_in ring turns)) (greatest (map (λ (x : MarkRaise). x.mark) rs)))
     (cond-false (same_ring x.ring ring) (x ∷ rest) rest (other_ring x.ring ring n))
 
 -- an inner message is of the installed ring

@@ -12,8 +12,8 @@ use Rattle.ring_wire.specs.declared.frame.Frame.TheVariants.{Commit as CommitFra
 use Rattle.ring_core_spec.specs.State.{Core, Report}
 use Rattle.ring_core_proof.specs.FactWords.{IsIn}
 use Rattle.ring_core_proof.specs.declared.event.RingEvent.{RingEvent}
-use Rattle.ring_core_proof.specs.Worlds.{Transmission, put, transmissions_from, run, unformed}
-use Rattle.ring_core_proof.specs.Moves.{Move, Idles, Enters, Learns, Visits, Takes, Installs, moved, sends_of, MayMove, IsReceivedFrame}
+use Rattle.ring_core_proof.specs.Worlds.{Transmission, with_core, transmissions_from, run, unformed}
+use Rattle.ring_core_proof.specs.Moves.{Move, Idles, Enters, Learns, Visits, Takes, Installs, core_after_move, sends_of, MayMove, IsReceivedFrame}
 use Rattle.ring_core_proof.proofs.InLists.{in-each}
 use Rattle.ring_core_proof.proofs.Lifting.{kept_run}
 use Rattle.ring_chain_proof.specs.ChainWords.{IsRingOf}
@@ -47,7 +47,7 @@ learned_plan cores frames i k p h =
     record { ring_of = hop.ring_of; count = omega arith; reports = hop.reports }
 
 plans_after : {A : Type 0} → (cores : ℕ → Core A) (frames : List (Transmission A)) (i : ℕ) (m : Move A) → Holds cores frames → ArePlans cores →
-    MayMove (IsReceivedFrame frames i) (cores i) m → Each (IsPlan cores) (moved (cores i) m).plans
+    MayMove (IsReceivedFrame frames i) (cores i) m → Each (IsPlan cores) (core_after_move (cores i) m).plans
 plans_after cores frames i (Learns k) p h may = (learned_plan cores frames i k p may, h i)
 plans_after cores frames i (Idles state gathering last_sent queue sends) p h may = h i
 plans_after cores frames i (Enters k) p h may = h i
@@ -56,10 +56,10 @@ plans_after cores frames i (Takes x) p h may = h i
 plans_after cores frames i Installs p h may = h i
 
 pub plans_moved : {A : Type 0} → (cores : ℕ → Core A) (frames : List (Transmission A)) (i : ℕ) (m : Move A) → 1 ≤ i → MayMove (IsReceivedFrame frames i) (cores i) m →
-    HoldsPlans cores frames → HoldsPlans (put cores i (moved (cores i) m)) (frames ++ transmissions_from i (sends_of (cores i) m))
+    HoldsPlans cores frames → HoldsPlans (with_core cores i (core_after_move (cores i) m)) (frames ++ transmissions_from i (sends_of (cores i) m))
 plans_moved {A} cores frames i m low h p =
-    let d = moved (cores i) m in
-    let new = put cores i d in
+    let d = core_after_move (cores i) m in
+    let new = with_core cores i d in
     let g : AllGrown cores new = put_grows cores i d (moved_grows (cores i) m) in
     record {
       all = holding.moves cores frames i m low h p.all;

@@ -10,8 +10,8 @@ use Rattle.ring_core_spec.specs.Commits.{Configuration}
 use Rattle.ring_base.specs.Processors.{has}
 use Rattle.ring_core_spec.specs.State.{Core}
 use Rattle.ring_core_proof.specs.FactWords.{IsIn}
-use Rattle.ring_core_proof.specs.Worlds.{Transmission, put}
-use Rattle.ring_core_proof.specs.Moves.{Move, Idles, Enters, Learns, Visits, Takes, Installs, moved, MayMove, MayEnter, IsReceivedFrame}
+use Rattle.ring_core_proof.specs.Worlds.{Transmission, with_core}
+use Rattle.ring_core_proof.specs.Moves.{Move, Idles, Enters, Learns, Visits, Takes, Installs, core_after_move, MayMove, MayEnter, IsReceivedFrame}
 use Rattle.ring_core_proof.proofs.InLists.{some-each}
 use Rattle.ring_core_proof.proofs.Lifting.{put-here}
 use Rattle.ring_core_proof.proofs.Rises.{Rising, moved_rises, one_ring}
@@ -34,22 +34,22 @@ came_right {A} visits cores frames i f all received =
 module _ {A : Type 0} (visits : Chains A) (cores : ℕ → Core A) (frames : List (Transmission A)) (i : ℕ)
     (right : AreRight visits cores frames) (are : AreRings cores) where
   -- the ring that the core enters has these members for its representative too
-  pub entered_shared : (k : CommitToken) → MayEnter (IsReceivedFrame frames i) (cores i) k → IsRingOf (put cores i (moved (cores i) (Enters k))) k.ring k.members
+  pub entered_shared : (k : CommitToken) → MayEnter (IsReceivedFrame frames i) (cores i) k → IsRingOf (with_core cores i (core_after_move (cores i) (Enters k))) k.ring k.members
   entered_shared k h =
-      let d = moved (cores i) (Enters k) in
+      let d = core_after_move (cores i) (Enters k) in
       let p : Configuration = record { ring = k.ring; members = k.members } in
       elim (h.from) [
         | inl own ↦ (let rep : k.ring.rep ≡ i = own.rep ∙ are.me i in
-            subst (λ q. IsIn p (put cores i d q).rings) (sym rep) (subst (λ (x : Core A). IsIn p x.rings) (sym (put-here cores i d)) (inl refl)))
+            subst (λ q. IsIn p (with_core cores i d q).rings) (sym rep) (subst (λ (x : Core A). IsIn p x.rings) (sym (put-here cores i d)) (inl refl)))
         | inr received ↦ (let f = came_right visits cores frames i (CommitFrame k) right received in
             (put_grows cores i d (moved_grows (cores i) (Enters k)) k.ring.rep).rings p (f.3).ring_of)
       ]
 
   -- a ring of the core is that one, or an earlier one
-  rings_after : (m : Move A) → MayMove (IsReceivedFrame frames i) (cores i) m → (p : Configuration) → IsIn p (moved (cores i) m).rings →
-      IsRingOf (put cores i (moved (cores i) m)) p.ring p.members ⊎ IsIn p (cores i).rings
+  rings_after : (m : Move A) → MayMove (IsReceivedFrame frames i) (cores i) m → (p : Configuration) → IsIn p (core_after_move (cores i) m).rings →
+      IsRingOf (with_core cores i (core_after_move (cores i) m)) p.ring p.members ⊎ IsIn p (cores i).rings
   rings_after (Enters k) h p (inl e) =
-      inl (subst (λ (p : Configuration). IsRingOf (put cores i (moved (cores i) (Enters k))) p.ring p.members) (sym e)
+      inl (subst (λ (p : Configuration). IsRingOf (with_core cores i (core_after_move (cores i) (Enters k))) p.ring p.members) (sym e)
       (entered_shared k h))
   rings_after (Enters k) h p (inr x) = inr x
   rings_after (Idles state gathering last_sent queue sends) h p x = inr x
@@ -58,10 +58,10 @@ module _ {A : Type 0} (visits : Chains A) (cores : ℕ → Core A) (frames : Lis
   rings_after (Takes y) h p x = inr x
   rings_after Installs h p x = inr x
 
-  pub rings_moved : (m : Move A) → MayMove (IsReceivedFrame frames i) (cores i) m → AreRings (put cores i (moved (cores i) m))
+  pub rings_moved : (m : Move A) → MayMove (IsReceivedFrame frames i) (cores i) m → AreRings (with_core cores i (core_after_move (cores i) m))
   rings_moved m h =
-      let d = moved (cores i) m in
-      let cores' = put cores i d in
+      let d = core_after_move (cores i) m in
+      let cores' = with_core cores i d in
       let g : AllGrown cores cores' = put_grows cores i d (moved_grows (cores i) m) in
       record {
         me = λ q. (g q).me ∙ are.me q;

@@ -7,22 +7,22 @@ use Rattle.ring_base.specs.Processors.{has}
 use Rattle.ring_base.specs.declared.ring_id.RingId.{RingId}
 use Rattle.ring_base.proofs.Each.{each-weaker, each-append, each-map}
 use Rattle.ring_wire.specs.declared.frame.Frame.{Frame}
-use Rattle.ring_core_spec.specs.Recoveries.{rests}
+use Rattle.ring_core_spec.specs.Recoveries.{rest_messages}
 use Rattle.ring_core_spec.specs.declared.input.Input.{Input}
 use Rattle.ring_core_spec.specs.declared.input.Input.TheVariants.{Frame as FrameInput, Timeout as TimeInput, Send as SendInput}
 use Rattle.ring_core_spec.specs.declared.out.Out.{Out}
 use Rattle.ring_core_spec.specs.declared.out.Out.TheVariants.{Send as SendOut, Agreed, Safe, Trans, Rest, Regular}
 use Rattle.ring_core_spec.specs.State.{Core, OutgoingFrame, frame_at}
 use Rattle.ring_core_spec.specs.Views.{front, mark, plan}
-use Rattle.ring_core_spec.specs.Giving.{may_install, install, addressed, sent, users, agreed_from, safe_from, delivered_from, given, installation_outputs}
-use Rattle.ring_core_spec.specs.Giving.{settle}
+use Rattle.ring_core_spec.specs.Giving.{may_install, install, sends_with_receivers, sent, user_messages_between, agreed_from, safe_from, delivered_from, agreed_and_safe_of_step, installation_outputs}
+use Rattle.ring_core_spec.specs.Giving.{with_installation_if}
 use Rattle.ring_core_spec.specs.Deciding.{decide}
-use Rattle.ring_core_spec.specs.Transitions.{done}
+use Rattle.ring_core_spec.specs.Transitions.{transition_and_proposal}
 use Rattle.ring_core_spec.specs.Stepping.{ring_step}
 use Rattle.ring_core_proof.specs.declared.event.RingEvent.{RingEvent}
 use Rattle.ring_core_proof.specs.declared.event.RingEvent.TheVariants.{Send, Deliver, Timeout, Stop}
 use Rattle.ring_core_proof.specs.Worlds.{Transmission, World, is_node, stepped_if, stopped_if, handed_if, handed}
-use Rattle.ring_core_proof.specs.Worlds.{happens, run, unformed, ring_formed, acts_on_formed, run_formed}
+use Rattle.ring_core_proof.specs.Worlds.{world_after_event, run, unformed, ring_formed, has_effect_on_formed, run_formed}
 use Rattle.ring_core_proof.proofs.InLists.{each-in}
 use Rattle.ring_core_proof.proofs.Lifting.{put-here}
 use Rattle.ring_chain_proof.specs.ChainWords.{IsSafe}
@@ -47,18 +47,18 @@ IsMark c (Regular ring set) = Unit {0}
 marks_from : {A : Type 0} → (c : Core A) (ring : RingId) (f m : ℕ) → Each (IsMark c) (delivered_from c ring f m)
 marks_from c ring f m =
     each-append (IsMark c) (agreed_from c ring f) (safe_from c ring m)
-    (each-map (IsMark c) (λ x. Agreed ring x.number x) (users c ring f (front c ring)) (each-in _ _ (λ x k. tt)))
+    (each-map (IsMark c) (λ x. Agreed ring x.number x) (user_messages_between c ring f (front c ring)) (each-in _ _ (λ x k. tt)))
     (cond_both (nat_lt m (mark c ring)) (Safe ring (mark c ring) ∷ []) [] (Each (IsMark c)) (λ e. (refl, tt)) (λ e. tt))
 
 marks_sent : {A : Type 0} → (c : Core A) (sends : List (OutgoingFrame A)) → Each (IsMark c) (sent sends)
-marks_sent c sends = each-map (IsMark c) (λ s. SendOut s.to s.frame) (addressed sends) (each-in _ _ (λ x k. tt))
+marks_sent c sends = each-map (IsMark c) (λ s. SendOut s.to s.frame) (sends_with_receivers sends) (each-in _ _ (λ x k. tt))
 
 marks_configured : {A : Type 0} → (c : Core A) → Each (IsMark c) (installation_outputs c)
 marks_configured c = (
   tt,
-  each-append (IsMark c) (map (λ x. Rest x.ring x.number x) (rests (plan c) c.held))
+  each-append (IsMark c) (map (λ x. Rest x.ring x.number x) (rest_messages (plan c) c.held))
       (Regular c.running.ring c.running.members ∷ delivered_from c c.running.ring 0 0)
-      (each-map (IsMark c) (λ x. Rest x.ring x.number x) (rests (plan c) c.held) (each-in _ _ (λ x k. tt)))
+      (each-map (IsMark c) (λ x. Rest x.ring x.number x) (rest_messages (plan c) c.held) (each-in _ _ (λ x k. tt)))
       (tt, marks_from c c.running.ring 0 0),
 )
 
@@ -74,16 +74,16 @@ same_marks c outs h = each-weaker (IsMark c) (IsMark (install c)) one outs h
     one (Regular ring set) k = tt
 
 marks_settled : {A : Type 0} → (b : Bool) (c : Core A) (outs : List (Out A)) → Each (IsMark c) outs →
-    Each (IsMark (settle b c outs).core) (settle b c outs).outs
+    Each (IsMark (with_installation_if b c outs).core) (with_installation_if b c outs).outs
 marks_settled false c outs h = h
 marks_settled true c outs h = same_marks c (outs ++ installation_outputs c) (each-append (IsMark c) outs (installation_outputs c) h (marks_configured c))
 
 step_marks : {A : Type 0} → (c : Core A) (input : Input A) → Each (IsMark (ring_step c input).core) (ring_step c input).outs
 unfolding ring_step
 step_marks c input =
-    let d = done c (decide c input) in
-    marks_settled (may_install d.core) d.core (sent d.sends ++ given c d.core)
-    (each-append (IsMark d.core) (sent d.sends) (given c d.core) (marks_sent d.core d.sends)
+    let d = transition_and_proposal c (decide c input) in
+    marks_settled (may_install d.core) d.core (sent d.sends ++ agreed_and_safe_of_step c d.core)
+    (each-append (IsMark d.core) (sent d.sends) (agreed_and_safe_of_step c d.core) (marks_sent d.core d.sends)
     (marks_from d.core c.installed.ring (front c c.installed.ring) (mark c c.installed.ring)))
 
 -- One event
@@ -114,7 +114,7 @@ gives_handed : {A : Type 0} → (w : World A) (i : ℕ) (o : Option (Transmissio
 gives_handed w i None = inl refl
 gives_handed w i (Some f) = gives_if (has f.to i) w i f.frame
 
-pub gives : {A : Type 0} → (w : World A) (e : RingEvent A) → GivesOf w (happens w e)
+pub gives : {A : Type 0} → (w : World A) (e : RingEvent A) → GivesOf w (world_after_event w e)
 gives w (Send i payload) = gives_stepped (is_node w i) w i (SendInput payload)
 gives w (Deliver i n) = gives_handed w i (frame_at w.frames n)
 gives w (Timeout i kind) = gives_stepped (is_node w i) w i (TimeInput kind)
@@ -139,9 +139,9 @@ told_new cores safe i c e (Trans o n set) h = tt
 told_new cores safe i c e (Rest ring n x) h = tt
 told_new cores safe i c e (Regular ring set) h = tt
 
-told_event : {A : Type 0} → (w : World A) (e : RingEvent A) → Holds w.cores w.frames → SafeOutputsAreSafe w → SafeOutputsAreSafe (happens w e)
+told_event : {A : Type 0} → (w : World A) (e : RingEvent A) → Holds w.cores w.frames → SafeOutputsAreSafe w → SafeOutputsAreSafe (world_after_event w e)
 told_event {A} w e p h =
-    let v = happens w e in
+    let v = world_after_event w e in
     let Told : ℕ × Out A → Type 0 = λ o. IsSafeOutput v.cores o.1 in
     let old : Each Told w.outs = each-weaker (λ (o : ℕ × Out A). IsSafeOutput w.cores o.1) Told
     (λ (o : ℕ × Out A) k. told_grows w.cores v.cores (event_grows w e) o.1 k) w.outs h in
@@ -158,10 +158,10 @@ told_event {A} w e p h =
 
 told_run : {A : Type 0} → (w : World A) (events : List (RingEvent A)) → Holds w.cores w.frames → SafeOutputsAreSafe w → SafeOutputsAreSafe (run w events)
 told_run w [] p h = h
-told_run w (e ∷ events) p h = told_run (happens w e) events (event_holds w e p) (told_event w e p h)
+told_run w (e ∷ events) p h = told_run (world_after_event w e) events (event_holds w e p) (told_event w e p h)
 
 pub unformed_told : {A : Type 0} → (n : ℕ) (events : List (RingEvent A)) → SafeOutputsAreSafe (run (unformed n) events)
 unformed_told n events = told_run (unformed n) events (opening_holds n) tt
 
 pub formed_told : {A : Type 0} → (n : ℕ) (events : List (RingEvent A)) → 1 ≤ n → SafeOutputsAreSafe (run_formed n events)
-formed_told n events some = told_run (ring_formed n) (filter acts_on_formed events) (start_holds n some) tt
+formed_told n events some = told_run (ring_formed n) (filter has_effect_on_formed events) (start_holds n some) tt

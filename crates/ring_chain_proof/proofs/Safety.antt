@@ -14,14 +14,14 @@ use Rattle.ring_wire.specs.declared.commit.CommitToken.{CommitToken}
 use Rattle.ring_wire.specs.declared.entries.CommitEntry.{CommitEntry}
 use Rattle.ring_wire.specs.declared.frame.Frame.TheVariants.{Commit as CommitFrame}
 use Rattle.ring_base.proofs.SameRing.{ring_same}
-use Rattle.ring_core_spec.specs.Tokens.{TokenVisit, Raise, mark_by, forwarded_in, raised_to, VisitBy, forwarded_by, HaveGrown}
+use Rattle.ring_core_spec.specs.Tokens.{TokenVisit, MarkRaise, mark_from_arus, forwarded_in, raised_to, VisitBy, forwarded_by, FrontsHaveGrown}
 use Rattle.ring_core_spec.proofs.Tokens.{marks_safe}
 use Rattle.ring_core_spec.specs.Commits.{reports_of, safe_of}
 use Rattle.ring_core_spec.specs.State.{Core, Report}
 use Rattle.ring_core_spec.specs.Views.{front, mark}
 use Rattle.ring_core_proof.specs.FactWords.{IsIn}
-use Rattle.ring_core_proof.specs.Worlds.{Transmission, put}
-use Rattle.ring_core_proof.specs.Moves.{Move, Idles, Enters, Learns, Visits, Takes, Installs, moved, MayMove, IsReceivedFrame}
+use Rattle.ring_core_proof.specs.Worlds.{Transmission, with_core}
+use Rattle.ring_core_proof.specs.Moves.{Move, Idles, Enters, Learns, Visits, Takes, Installs, core_after_move, MayMove, IsReceivedFrame}
 use Rattle.ring_core_proof.proofs.InLists.{in-each, each-in, in-filtered}
 use Rattle.ring_core_proof.proofs.VisitsByRules.{Turned}
 use Rattle.ring_chain_proof.specs.ChainWords.{Chains, visits_taken_by, IsSafe}
@@ -31,7 +31,7 @@ use Rattle.ring_chain_proof.proofs.Rings.{came_right}
 use Rattle.ring_chain_proof.specs.ChainFacts.{AreChains}
 
 pub record AreSafe {A : Type 0} (cores : ℕ → Core A) : Type 0 where
-  pub raises : (q : ℕ) → Each (λ (x : Raise). IsSafe cores x.ring x.mark) (cores q).raises
+  pub raises : (q : ℕ) → Each (λ (x : MarkRaise). IsSafe cores x.ring x.mark) (cores q).raises
   pub reports : (q : ℕ) → Each (λ (x : Report). IsSafe cores x.entry.old x.entry.mark) (cores q).reports
 
 -- the greater of two that are safe
@@ -43,13 +43,13 @@ safe_max cores r a b ha hb =
     ]
 
 -- the greatest mark to which a plan raised a ring
-raised_safe : {A : Type 0} → (cores : ℕ → Core A) (r : RingId) (raises : List Raise) → Each (λ (x : Raise). IsSafe cores x.ring x.mark) raises →
+raised_safe : {A : Type 0} → (cores : ℕ → Core A) (r : RingId) (raises : List MarkRaise) → Each (λ (x : MarkRaise). IsSafe cores x.ring x.mark) raises →
     IsSafe cores r (raised_to r raises)
 raised_safe cores r [] h = inl refl
 raised_safe cores r (x ∷ raises) h =
-    let rest = filter (λ (x : Raise). same_ring x.ring r) raises in
-    cond_both (same_ring x.ring r) (x ∷ rest) rest (λ xs. IsSafe cores r (greatest (map (λ (x : Raise). x.mark) xs)))
-    (λ e. safe_max cores r x.mark (greatest (map (λ (x : Raise). x.mark) rest))
+    let rest = filter (λ (x : MarkRaise). same_ring x.ring r) raises in
+    cond_both (same_ring x.ring r) (x ∷ rest) rest (λ xs. IsSafe cores r (greatest (map (λ (x : MarkRaise). x.mark) xs)))
+    (λ e. safe_max cores r x.mark (greatest (map (λ (x : MarkRaise). x.mark) rest))
     (subst (λ q. IsSafe cores q x.mark) (ring_same x.ring r e) h.0) (raised_safe cores r raises h.1))
     (λ e. raised_safe cores r raises h.1)
 
@@ -87,7 +87,7 @@ in_picked {A} v (w ∷ vs) (inr h) =
 module _ {A : Type 0} (visits : Chains A) (cores : ℕ → Core A) (chains : AreChains visits cores)
     (turned : (q : ℕ) → Turned (cores q)) (safe : AreSafe cores) where
   -- fronts have grown since the visits
-  grown_since : (r : RingId) → HaveGrown (λ p. front (cores p) r) (visits r)
+  grown_since : (r : RingId) → FrontsHaveGrown (λ p. front (cores p) r) (visits r)
   grown_since r =
       each-in (λ (v : VisitBy A). v.turn.front ≤ front (cores v.who) r) (visits r) (λ v h.
       let P : List (TokenVisit A) → Type 0 = λ ts. IsIn v.turn ts in
@@ -96,13 +96,13 @@ module _ {A : Type 0} (visits : Chains A) (cores : ℕ → Core A) (chains : Are
       let t = in-each _ v.turn (cores v.who).turns (turned v.who) i.0 in
       subst (λ q. v.turn.front ≤ front (cores v.who) q) (ring_same v.turn.received.ring r i.1) t.grown)
 
-  visits_safe : (q : ℕ) (r : RingId) → IsSafe cores r (mark_by (forwarded_in r (cores q).turns))
+  visits_safe : (q : ℕ) (r : RingId) → IsSafe cores r (mark_from_arus (forwarded_in r (cores q).turns))
   visits_safe q r =
       let same : forwarded_in r (cores q).turns ≡ forwarded_by q (visits r) = ap (map (λ (v : TokenVisit A). v.forwarded.aru))
       (chains.turns q r) ∙ forwarded_picked q (visits r) in
-      subst (λ fs. IsSafe cores r (mark_by fs)) (sym same)
+      subst (λ fs. IsSafe cores r (mark_from_arus fs)) (sym same)
       (elim (chains.rounds r) [
-        | inl e ↦ inl (ap (λ (vs : List (VisitBy A)). mark_by (forwarded_by q vs)) e)
+        | inl e ↦ inl (ap (λ (vs : List (VisitBy A)). mark_from_arus (forwarded_by q vs)) e)
         | inr round ↦ inr (
           round.members,
           round.ring_of,
@@ -113,7 +113,7 @@ module _ {A : Type 0} (visits : Chains A) (cores : ℕ → Core A) (chains : Are
 
   -- each safe mark of each core is safe
   pub mark_safe : (q : ℕ) (r : RingId) → IsSafe cores r (mark (cores q) r)
-  mark_safe q r = safe_max cores r (mark_by (forwarded_in r (cores q).turns)) (raised_to r (cores q).raises)
+  mark_safe q r = safe_max cores r (mark_from_arus (forwarded_in r (cores q).turns)) (raised_to r (cores q).raises)
       (visits_safe q r) (raised_safe cores r (cores q).raises (safe.raises q))
 
   module _ (frames : List (Transmission A)) (i : ℕ) (right : AreRight visits cores frames) where
@@ -125,7 +125,7 @@ module _ {A : Type 0} (visits : Chains A) (cores : ℕ → Core A) (chains : Are
         (λ x e s. in-each (λ (x : Report). IsSafe cores x.entry.old x.entry.mark)
         (record { ring = k.ring; entry = e }) _ (safe.reports _) (hop.reports x e s))
 
-    raises_moved : (m : Move A) → MayMove (IsReceivedFrame frames i) (cores i) m → Each (λ (x : Raise). IsSafe cores x.ring x.mark) (moved (cores i) m).raises
+    raises_moved : (m : Move A) → MayMove (IsReceivedFrame frames i) (cores i) m → Each (λ (x : MarkRaise). IsSafe cores x.ring x.mark) (core_after_move (cores i) m).raises
     raises_moved (Learns k) h = (reported_safe cores (cores i).installed.ring k.entries (entries_safe k h.from), safe.raises i)
     raises_moved (Idles state gathering last_sent queue sends) h = safe.raises i
     raises_moved (Enters k) h = safe.raises i
@@ -133,7 +133,7 @@ module _ {A : Type 0} (visits : Chains A) (cores : ℕ → Core A) (chains : Are
     raises_moved (Takes x) h = safe.raises i
     raises_moved Installs h = safe.raises i
 
-    reports_moved : (m : Move A) → Each (λ (x : Report). IsSafe cores x.entry.old x.entry.mark) (moved (cores i) m).reports
+    reports_moved : (m : Move A) → Each (λ (x : Report). IsSafe cores x.entry.old x.entry.mark) (core_after_move (cores i) m).reports
     reports_moved (Enters k) = (mark_safe i (cores i).installed.ring, safe.reports i)
     reports_moved (Idles state gathering last_sent queue sends) = safe.reports i
     reports_moved (Learns k) = safe.reports i
@@ -141,18 +141,18 @@ module _ {A : Type 0} (visits : Chains A) (cores : ℕ → Core A) (chains : Are
     reports_moved (Takes x) = safe.reports i
     reports_moved Installs = safe.reports i
 
-    pub safe_moved : (m : Move A) → MayMove (IsReceivedFrame frames i) (cores i) m → AreSafe (put cores i (moved (cores i) m))
+    pub safe_moved : (m : Move A) → MayMove (IsReceivedFrame frames i) (cores i) m → AreSafe (with_core cores i (core_after_move (cores i) m))
     safe_moved m h =
-        let d = moved (cores i) m in
-        let cores' = put cores i d in
+        let d = core_after_move (cores i) m in
+        let cores' = with_core cores i d in
         let g : AllGrown cores cores' = put_grows cores i d (moved_grows (cores i) m) in
-        let raises = each-weaker (λ (x : Raise). IsSafe cores x.ring x.mark)
-        (λ (x : Raise). IsSafe cores' x.ring x.mark) (λ x s. safe_grows cores cores' g x.ring x.mark s) in
+        let raises = each-weaker (λ (x : MarkRaise). IsSafe cores x.ring x.mark)
+        (λ (x : MarkRaise). IsSafe cores' x.ring x.mark) (λ x s. safe_grows cores cores' g x.ring x.mark s) in
         let reports = each-weaker (λ (x : Report). IsSafe cores x.entry.old x.entry.mark)
         (λ (x : Report). IsSafe cores' x.entry.old x.entry.mark)
         (λ x s. safe_grows cores cores' g x.entry.old x.entry.mark s) in
         record {
-          raises = put-each (λ q (x : Core A). Each (λ (x : Raise). IsSafe cores' x.ring x.mark) x.raises) cores i d
+          raises = put-each (λ q (x : Core A). Each (λ (x : MarkRaise). IsSafe cores' x.ring x.mark) x.raises) cores i d
               (λ q n. raises (cores q).raises (safe.raises q)) (raises d.raises (raises_moved m h));
           reports = put-each (λ q (x : Core A). Each (λ (x : Report). IsSafe cores' x.entry.old x.entry.mark)
               x.reports) cores i d (λ q n. reports (cores q).reports (safe.reports q))

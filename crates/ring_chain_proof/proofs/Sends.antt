@@ -19,10 +19,10 @@ use Rattle.ring_core_spec.specs.Commits.{receiver, hop_with_entries}
 use Rattle.ring_core_spec.specs.State.{Core, OutgoingFrame}
 use Rattle.ring_core_spec.specs.Views.{own_entry}
 use Rattle.ring_core_spec.specs.Visiting.{to_others, to_next}
-use Rattle.ring_core_spec.specs.Handing.{commit_sent_on}
+use Rattle.ring_core_spec.specs.CommitSteps.{commit_sent_on}
 use Rattle.ring_core_proof.specs.FactWords.{IsIn}
-use Rattle.ring_core_proof.specs.Worlds.{Transmission, put, transmissions_from}
-use Rattle.ring_core_proof.specs.Moves.{Move, Idles, Enters, Learns, Visits, Takes, Installs, forwarded_with, moved, sends_of}
+use Rattle.ring_core_proof.specs.Worlds.{Transmission, with_core, transmissions_from}
+use Rattle.ring_core_proof.specs.Moves.{Move, Idles, Enters, Learns, Visits, Takes, Installs, forwarded_with, core_after_move, sends_of}
 use Rattle.ring_core_proof.specs.Moves.{IsRepeated, MayEnter, MayLearn, MayVisit, MayMove, IsReceivedFrame}
 use Rattle.ring_core_proof.proofs.InLists.{in-each}
 use Rattle.ring_core_proof.proofs.Lifting.{put-here}
@@ -67,11 +67,11 @@ module _ {A : Type 0} (visits : Chains A) (cores : ℕ → Core A) (frames : Lis
       ]
 
   entered_right : (k : CommitToken) → MayEnter (IsReceivedFrame frames i) (cores i) k →
-      IsHop (put cores i (moved (cores i) (Enters k))) i (only (receiver (hop_with_entries k (own_entry (cores i) ∷ [])))) (hop_with_entries k (own_entry (cores i) ∷ []))
+      IsHop (with_core cores i (core_after_move (cores i) (Enters k))) i (only (receiver (hop_with_entries k (own_entry (cores i) ∷ [])))) (hop_with_entries k (own_entry (cores i) ∷ []))
   entered_right k h =
       let own = own_entry (cores i) in
-      let d = moved (cores i) (Enters k) in
-      let g : AllGrown cores (put cores i d) = put_grows cores i d (moved_grows (cores i) (Enters k)) in
+      let d = core_after_move (cores i) (Enters k) in
+      let g : AllGrown cores (with_core cores i d) = put_grows cores i d (moved_grows (cores i) (Enters k)) in
       let first : k.hop < size k.members = h.first (let e : (cores i).me ≡ i = are.me i in omega arith) in
       let here : at k.members (k.hop % size k.members) ≡ i = h.here ∙ are.me i in
       let hop : k.hop % size k.members ≡ k.hop = mod-eq_of_lt first in
@@ -79,7 +79,7 @@ module _ {A : Type 0} (visits : Chains A) (cores : ℕ → Core A) (frames : Lis
       let count : length k.entries ≡ k.hop = before.count in
       let push : length (k.entries ++ own ∷ []) ≡ suc (length k.entries) = push-length k.entries own in
       let less : suc k.hop - 1 ≡ k.hop = omega arith in
-      let mine : IsIn (record { ring = k.ring; entry = own }) (put cores i d i).reports =
+      let mine : IsIn (record { ring = k.ring; entry = own }) (with_core cores i d i).reports =
       subst (λ (x : Core A). IsIn (record { ring = k.ring; entry = own }) x.reports) (sym (put-here cores i d))
       (inl refl) in
       record {
@@ -92,16 +92,16 @@ module _ {A : Type 0} (visits : Chains A) (cores : ℕ → Core A) (frames : Lis
         reports = λ x e s. elim (get-push k.entries own x e s) [
           | inl old ↦ (g (at k.members x)).reports _ (before.reports x e old)
           | inr new ↦ (let who : i ≡ at k.members x = sym here ∙ ap (at k.members) (hop ∙ sym count ∙ sym new.0) in
-              subst (λ q. IsIn (record { ring = k.ring; entry = e }) (put cores i d q).reports) who
-              (subst (λ e. IsIn (record { ring = k.ring; entry = e }) (put cores i d i).reports) new.1 mine))
+              subst (λ q. IsIn (record { ring = k.ring; entry = e }) (with_core cores i d q).reports) who
+              (subst (λ e. IsIn (record { ring = k.ring; entry = e }) (with_core cores i d i).reports) new.1 mine))
         ];
       }
 
   learned_right : (k : CommitToken) → MayLearn (IsReceivedFrame frames i) (cores i) k →
-      IsHop (put cores i (moved (cores i) (Learns k))) i (only (receiver (hop_with_entries k []))) (hop_with_entries k [])
+      IsHop (with_core cores i (core_after_move (cores i) (Learns k))) i (only (receiver (hop_with_entries k []))) (hop_with_entries k [])
   learned_right k h =
-      let d = moved (cores i) (Learns k) in
-      let g : AllGrown cores (put cores i d) = put_grows cores i d (moved_grows (cores i) (Learns k)) in
+      let d = core_after_move (cores i) (Learns k) in
+      let g : AllGrown cores (with_core cores i d) = put_grows cores i d (moved_grows (cores i) (Learns k)) in
       let here : at k.members (k.hop % size k.members) ≡ i = h.here ∙ are.me i in
       let less : suc k.hop - 1 ≡ k.hop = omega arith in
       let f = came_right visits cores frames i (CommitFrame k) sent.right h.from in
@@ -122,12 +122,12 @@ module _ {A : Type 0} (visits : Chains A) (cores : ℕ → Core A) (frames : Lis
 
   module _ (chains : AreChains visits cores) (texts : AreTexts visits cores) (turned : (q : ℕ) → Turned (cores q)) where
     abbrev after : Move A → ℕ → Core A
-    after m = put cores i (moved (cores i) m)
+    after m = with_core cores i (core_after_move (cores i) m)
 
     -- the kept token of before is still valid
     last_sent_repeated : (m : Move A) (q : ℕ) → ShowsRight (visits_after visits i (cores i) m) (after m) q (cores q).last_sent
     last_sent_repeated m q s e = right_grows visits (visits_after visits i (cores i) m) cores (after m)
-        (visits_grow visits i (cores i) m) (put_grows cores i (moved (cores i) m) (moved_grows (cores i) m))
+        (visits_grow visits i (cores i) m) (put_grows cores i (core_after_move (cores i) m) (moved_grows (cores i) m))
         q s.to s.frame (sent.last_sent q s e)
 
     abbrev SendsRight : Move A → OutgoingFrame A → Type 0
@@ -169,7 +169,7 @@ module _ {A : Type 0} (visits : Chains A) (cores : ℕ → Core A) (frames : Lis
     some_right : (m : Move A) (s : OutgoingFrame A) → SendsRight m s → ShowsRight (visits_after visits i (cores i) m) (after m) i (Some s)
     some_right m s h u e = (let same : s ≡ u = cc in subst (λ (s : OutgoingFrame A). SendsRight m s) same h)
 
-    shown_right : (m : Move A) → MayMove (IsReceivedFrame frames i) (cores i) m → ShowsRight (visits_after visits i (cores i) m) (after m) i (moved (cores i) m).last_sent
+    shown_right : (m : Move A) → MayMove (IsReceivedFrame frames i) (cores i) m → ShowsRight (visits_after visits i (cores i) m) (after m) i (core_after_move (cores i) m).last_sent
     shown_right (Idles state gathering last_sent queue sends) h =
         elim (h.shows) [
           | inl none ↦ λ s e. absurd (let n : None ≡ Some s = sym none ∙ e in let x : ⊥ = cc in x)
@@ -187,14 +187,14 @@ module _ {A : Type 0} (visits : Chains A) (cores : ℕ → Core A) (frames : Lis
         AreSent (visits_after visits i (cores i) m) (after m) (frames ++ transmissions_from i (sends_of (cores i) m))
     sent_moved m h =
         let vs = visits_after visits i (cores i) m in
-        let g = put_grows cores i (moved (cores i) m) (moved_grows (cores i) m) in
+        let g = put_grows cores i (core_after_move (cores i) m) (moved_grows (cores i) m) in
         let test : OutgoingFrame A → Bool = λ s. not (s.to == nobody) in
         let sends = sends_of (cores i) m in
-        let are_right : Transmission A → Type 0 = λ f. IsRight vs (after m) f.from f.to f.frame in
+        let are_replies_right : Transmission A → Type 0 = λ f. IsRight vs (after m) f.from f.to f.frame in
         record {
-          right = each-append are_right frames (transmissions_from i sends)
+          right = each-append are_replies_right frames (transmissions_from i sends)
               (all_right_grow visits vs cores (after m) (visits_grow visits i (cores i) m) g frames sent.right)
-              (each-map are_right (λ (s : OutgoingFrame A). record { from = i; to = s.to; frame = s.frame })
+              (each-map are_replies_right (λ (s : OutgoingFrame A). record { from = i; to = s.to; frame = s.frame })
               (filter test sends) (each-filter (SendsRight m) test sends (sends_right m h)));
-          last_sent = put-each (λ q (x : Core A). ShowsRight vs (after m) q x.last_sent) cores i (moved (cores i) m) (λ q n. last_sent_repeated m q) (shown_right m h);
+          last_sent = put-each (λ q (x : Core A). ShowsRight vs (after m) q x.last_sent) cores i (core_after_move (cores i) m) (λ q n. last_sent_repeated m q) (shown_right m h);
         }

@@ -10,11 +10,11 @@ use Rattle.ring_base.specs.declared.ring_id.RingId.{RingId}
 use Rattle.ring_wire.specs.declared.commit.CommitToken.{CommitToken}
 use Rattle.ring_wire.specs.declared.frame.Frame.TheVariants.{Commit as CommitFrame}
 use Rattle.ring_core_spec.specs.Commits.{Configuration, position_of_hop}
-use Rattle.ring_core_spec.specs.State.{Core, floor, alone}
+use Rattle.ring_core_spec.specs.State.{Core, floor, opening_ring}
 use Rattle.ring_core_proof.specs.FactWords.{IsIn}
 use Rattle.ring_core_proof.specs.declared.event.RingEvent.{RingEvent}
-use Rattle.ring_core_proof.specs.Worlds.{Transmission, put, transmissions_from, run, unformed}
-use Rattle.ring_core_proof.specs.Moves.{Move, Idles, Enters, Learns, Visits, Takes, Installs, moved, sends_of, MayEnter, MayMove, IsReceivedFrame}
+use Rattle.ring_core_proof.specs.Worlds.{Transmission, with_core, transmissions_from, run, unformed}
+use Rattle.ring_core_proof.specs.Moves.{Move, Idles, Enters, Learns, Visits, Takes, Installs, core_after_move, sends_of, MayEnter, MayMove, IsReceivedFrame}
 use Rattle.ring_core_proof.proofs.InLists.{each-in}
 use Rattle.ring_core_proof.proofs.Lifting.{kept_run}
 use Rattle.ring_chain_proof.specs.ChainFacts.{TakesPart, AllTakePart, NameSameMembers}
@@ -24,7 +24,7 @@ use Rattle.ring_chain_proof.proofs.AllLayers.{Holds, holding, opening_holds, unf
 
 -- a ring of a core is its opening ring, or it takes part in it as a member
 abbrev IsPartOrAlone : ℕ → Configuration → Type 0
-IsPartOrAlone q p = (p ≡ alone q) ⊎ TakesPart q p
+IsPartOrAlone q p = (p ≡ opening_ring q) ⊎ TakesPart q p
 
 abbrev AllParts : {A : Type 0} → (ℕ → Core A) → Type 0
 AllParts cores = (q : ℕ) (p : Configuration) → IsIn p (cores q).rings → IsPartOrAlone q p
@@ -58,7 +58,7 @@ module _ {A : Type 0} (cores : ℕ → Core A) (frames : List (Transmission A)) 
         ];
       }
 
-  parts_after : (m : Move A) → MayMove (IsReceivedFrame frames i) (cores i) m → (x : Configuration) → IsIn x (moved (cores i) m).rings → IsPartOrAlone i x
+  parts_after : (m : Move A) → MayMove (IsReceivedFrame frames i) (cores i) m → (x : Configuration) → IsIn x (core_after_move (cores i) m).rings → IsPartOrAlone i x
   parts_after (Enters k) h x (inl e) = inr (subst (TakesPart i) (sym e) (entered_part k h))
   parts_after (Enters k) h x (inr there) = p.parts i x there
   parts_after (Idles state gathering last_sent queue sends) h x there = p.parts i x there
@@ -68,11 +68,11 @@ module _ {A : Type 0} (cores : ℕ → Core A) (frames : List (Transmission A)) 
   parts_after Installs h x there = p.parts i x there
 
   parts_moved : (m : Move A) → MayMove (IsReceivedFrame frames i) (cores i) m →
-      HoldsParts (put cores i (moved (cores i) m)) (frames ++ transmissions_from i (sends_of (cores i) m))
+      HoldsParts (with_core cores i (core_after_move (cores i) m)) (frames ++ transmissions_from i (sends_of (cores i) m))
   parts_moved m h =
       record {
         all = holding.moves cores frames i m low h p.all;
-        parts = put-each (λ q (c : Core A). (x : Configuration) → IsIn x c.rings → IsPartOrAlone q x) cores i (moved (cores i) m)
+        parts = put-each (λ q (c : Core A). (x : Configuration) → IsIn x c.rings → IsPartOrAlone q x) cores i (core_after_move (cores i) m)
             (λ q n. p.parts q) (parts_after m h);
       }
 
@@ -82,7 +82,7 @@ parts_hold n events =
     (record { all = opening_holds n; parts = λ q p there. elim there [ inl e ↦ inl e | inr none ↦ absurd none ] })
 
 -- a ring of one member
-alone_part : (q : ℕ) → IsProc q → TakesPart q (alone q)
+alone_part : (q : ℕ) → IsProc q → TakesPart q (opening_ring q)
 alone_part q proc =
     let member : IsMember (only q) q = (only_members q q proc.0).1 refl in
     record { member = member; first = smallest-least (only q) q proc member (λ j m. (let same : j ≡ q = (only_members q j proc.0).0 m in omega arith)) }

@@ -7,24 +7,24 @@ use Rattle.ring_base.specs.Numbers.{numbers_from}
 use Rattle.ring_base.specs.Rings.{same_ring}
 use Rattle.ring_base.specs.declared.ring_id.RingId.{RingId}
 use Rattle.ring_base.proofs.Each.{each-weaker, each-append, each-map, each-filter_map}
-use Rattle.ring_payload.specs.Kinds.{is_user}
+use Rattle.ring_payload.specs.PayloadKinds.{is_user}
 use Rattle.ring_wire.specs.declared.message.Message.{Message}
 use Rattle.ring_core_spec.specs.Windows.{is_numbered, found}
 use Rattle.ring_base.proofs.SameRing.{ring_same, same-self}
-use Rattle.ring_core_spec.specs.Recoveries.{transitional_part, past_gap_part, rests}
+use Rattle.ring_core_spec.specs.Recoveries.{transitional_part, past_gap_part, rest_messages}
 use Rattle.ring_core_spec.specs.declared.input.Input.{Input}
 use Rattle.ring_core_spec.specs.declared.out.Out.{Out}
 use Rattle.ring_core_spec.specs.declared.out.Out.TheVariants.{Send as SendOut, Agreed, Safe, Trans, Rest, Regular}
 use Rattle.ring_core_spec.specs.State.{Core, OutgoingFrame}
 use Rattle.ring_core_spec.specs.Views.{front, mark, plan}
-use Rattle.ring_core_spec.specs.Giving.{may_install, addressed, sent, users, agreed_from, safe_from, delivered_from, given, installation_outputs, settle}
+use Rattle.ring_core_spec.specs.Giving.{may_install, sends_with_receivers, sent, user_messages_between, agreed_from, safe_from, delivered_from, agreed_and_safe_of_step, installation_outputs, with_installation_if}
 use Rattle.ring_core_spec.specs.Deciding.{decide}
-use Rattle.ring_core_spec.specs.Transitions.{done}
+use Rattle.ring_core_spec.specs.Transitions.{transition_and_proposal}
 use Rattle.ring_core_spec.specs.Stepping.{ring_step}
 use Rattle.ring_core_proof.specs.FactWords.{IsIn}
 use Rattle.ring_core_proof.specs.declared.event.RingEvent.{RingEvent}
-use Rattle.ring_core_proof.specs.Worlds.{World, happens, run, unformed, ring_formed, acts_on_formed, run_formed}
-use Rattle.ring_core_proof.specs.Moves.{moved}
+use Rattle.ring_core_proof.specs.Worlds.{World, world_after_event, run, unformed, ring_formed, has_effect_on_formed, run_formed}
+use Rattle.ring_core_proof.specs.Moves.{core_after_move}
 use Rattle.ring_core_proof.proofs.InLists.{in-each, each-in, find-in, find-some}
 use Rattle.ring_core_proof.proofs.Lifting.{kept_run}
 use Rattle.ring_core_proof.proofs.OwnMessages.{held_stays}
@@ -78,11 +78,11 @@ told_delivered {A} c ring f m =
     let numbers = numbers_from (f + 1) (front c ring - f) in
     let told = users_told c.held ring (filter_map (found c.held ring) numbers) (found_of c.held ring numbers) in
     each-append (IsToldFrom c.held) (agreed_from c ring f) (safe_from c ring m)
-    (each-map (IsToldFrom c.held) (λ (x : Message A). Agreed ring x.number x) (users c ring f (front c ring)) told)
+    (each-map (IsToldFrom c.held) (λ (x : Message A). Agreed ring x.number x) (user_messages_between c ring f (front c ring)) told)
     (cond_both (nat_lt m (mark c ring)) (Safe ring (mark c ring) ∷ []) [] (Each (IsToldFrom c.held)) (λ e. (tt, tt)) (λ e. tt))
 
 told_sent : {A : Type 0} → (held : List (Message A)) (sends : List (OutgoingFrame A)) → Each (IsToldFrom held) (sent sends)
-told_sent held sends = each-map (IsToldFrom held) (λ s. SendOut s.to s.frame) (addressed sends) (each-in _ _ (λ x k. tt))
+told_sent held sends = each-map (IsToldFrom held) (λ s. SendOut s.to s.frame) (sends_with_receivers sends) (each-in _ _ (λ x k. tt))
 
 rest_told : {A : Type 0} → (held : List (Message A)) (ring : RingId) (xs : List (Message A)) → Each (λ (x : Message A). IsTold held ring x.number x) xs →
     Each (λ (x : Message A). IsTold held x.ring x.number x) xs
@@ -92,25 +92,25 @@ rest_told held ring xs h =
 told_configured : {A : Type 0} → (c : Core A) → Each (IsToldFrom c.held) (installation_outputs c)
 told_configured {A} c = let numbers = transitional_part (plan c) ++ past_gap_part (plan c) c.held in (
   tt,
-  each-append (IsToldFrom c.held) (map (λ (x : Message A). Rest x.ring x.number x) (rests (plan c) c.held))
+  each-append (IsToldFrom c.held) (map (λ (x : Message A). Rest x.ring x.number x) (rest_messages (plan c) c.held))
       (Regular c.running.ring c.running.members ∷ delivered_from c c.running.ring 0 0)
-      (each-map (IsToldFrom c.held) (λ (x : Message A). Rest x.ring x.number x) (rests (plan c) c.held)
-      (rest_told c.held (plan c).old (rests (plan c) c.held)
+      (each-map (IsToldFrom c.held) (λ (x : Message A). Rest x.ring x.number x) (rest_messages (plan c) c.held)
+      (rest_told c.held (plan c).old (rest_messages (plan c) c.held)
       (users_told c.held (plan c).old (filter_map (found c.held (plan c).old) numbers) (found_of c.held (plan c).old numbers))))
       (tt, told_delivered c c.running.ring 0 0),
 )
 
 told_settled : {A : Type 0} → (b : Bool) (c : Core A) (outs : List (Out A)) → Each (IsToldFrom c.held) outs →
-    Each (IsToldFrom (settle b c outs).core.held) (settle b c outs).outs
+    Each (IsToldFrom (with_installation_if b c outs).core.held) (with_installation_if b c outs).outs
 told_settled false c outs h = h
 told_settled true c outs h = each-append (IsToldFrom c.held) outs (installation_outputs c) h (told_configured c)
 
 step_tells_held : {A : Type 0} → (c : Core A) (input : Input A) → Each (IsToldFrom (ring_step c input).core.held) (ring_step c input).outs
 unfolding ring_step
 step_tells_held c input =
-    let d = done c (decide c input) in
-    told_settled (may_install d.core) d.core (sent d.sends ++ given c d.core)
-    (each-append (IsToldFrom d.core.held) (sent d.sends) (given c d.core) (told_sent d.core.held d.sends)
+    let d = transition_and_proposal c (decide c input) in
+    told_settled (may_install d.core) d.core (sent d.sends ++ agreed_and_safe_of_step c d.core)
+    (each-append (IsToldFrom d.core.held) (sent d.sends) (agreed_and_safe_of_step c d.core) (told_sent d.core.held d.sends)
     (told_delivered d.core c.installed.ring (front c c.installed.ring) (mark c c.installed.ring)))
 
 -- Held messages stay held
@@ -118,12 +118,12 @@ step_tells_held c input =
 abbrev AllKept : {A : Type 0} → (ℕ → Core A) → (ℕ → Core A) → Type 0
 AllKept {A} old new = (q : ℕ) (x : Message A) → IsIn x (old q).held → IsIn x (new q).held
 
-event_keeps : {A : Type 0} → (w : World A) (e : RingEvent A) → AllKept w.cores (happens w e).cores
+event_keeps : {A : Type 0} → (w : World A) (e : RingEvent A) → AllKept w.cores (world_after_event w e).cores
 event_keeps {A} w e =
     kept_run (λ cores frames. AllKept w.cores cores)
     (record {
       moves = λ cores frames i m low h p.
-          put-each (λ q (c : Core A). (x : Message A) → IsIn x (w.cores q).held → IsIn x c.held) cores i (moved (cores i) m)
+          put-each (λ q (c : Core A). (x : Message A) → IsIn x (w.cores q).held → IsIn x c.held) cores i (core_after_move (cores i) m)
           (λ q n. p q) (λ x k. held_stays (cores i) m x (p i x k));
     })
     w (e ∷ []) (λ q x k. k)
@@ -141,9 +141,9 @@ still_told old new g (Regular ring set) h = tt
 abbrev AllTold : {A : Type 0} → World A → Type 0
 AllTold {A} w = Each (λ (o : ℕ × Out A). IsToldFrom (w.cores o.0).held o.1) w.outs
 
-told_event : {A : Type 0} → (w : World A) (e : RingEvent A) → AllTold w → AllTold (happens w e)
+told_event : {A : Type 0} → (w : World A) (e : RingEvent A) → AllTold w → AllTold (world_after_event w e)
 told_event {A} w e h =
-    let v = happens w e in
+    let v = world_after_event w e in
     let Told : ℕ × Out A → Type 0 = λ o. IsToldFrom (v.cores o.0).held o.1 in
     let old : Each Told w.outs =
     each-weaker (λ (o : ℕ × Out A). IsToldFrom (w.cores o.0).held o.1) Told
@@ -158,7 +158,7 @@ told_event {A} w e h =
 
 told_run : {A : Type 0} → (w : World A) (events : List (RingEvent A)) → AllTold w → AllTold (run w events)
 told_run w [] h = h
-told_run w (e ∷ events) h = told_run (happens w e) events (told_event w e h)
+told_run w (e ∷ events) h = told_run (world_after_event w e) events (told_event w e h)
 
 -- Found messages
 
@@ -202,4 +202,4 @@ pub unformed_held : {A : Type 0} → (n : ℕ) (events : List (RingEvent A)) →
 unformed_held n events = told_is_held (run (unformed n) events) (unformed_holds n events) (told_run (unformed n) events tt)
 
 pub formed_held : {A : Type 0} → (n : ℕ) (events : List (RingEvent A)) → 1 ≤ n → OutputsAreHeld (run_formed n events)
-formed_held n events some = told_is_held (run_formed n events) (formed_runs n some events) (told_run (ring_formed n) (filter acts_on_formed events) tt)
+formed_held n events some = told_is_held (run_formed n events) (formed_runs n some events) (told_run (ring_formed n) (filter has_effect_on_formed events) tt)

@@ -4,15 +4,15 @@ use Rattle.std.specs.Prelude.{◌≡◌, ℕ, ◌+◌, ◌≤◌, true, ◌⊎�
 use Rattle.std.specs.List.{AllByRecursion}
 use Rattle.ring_base.specs.Processors.{IsProc, IsMember, at, size, position_of}
 use Rattle.ring_base.specs.declared.ring_id.RingId.{RingId}
-use Rattle.ring_payload.specs.Kinds.{is_user}
+use Rattle.ring_payload.specs.PayloadKinds.{is_user}
 use Rattle.ring_wire.specs.declared.commit.CommitToken.{CommitToken}
 use Rattle.ring_wire.specs.declared.message.Message.{Message}
 use Rattle.ring_core_spec.specs.Windows.{found}
-use Rattle.ring_core_spec.specs.Tokens.{TokenVisit, turns_of, VisitBy}
+use Rattle.ring_core_spec.specs.Tokens.{TokenVisit, visits_in_ring, VisitBy}
 use Rattle.ring_core_spec.specs.Commits.{Configuration}
 use Rattle.ring_core_spec.specs.declared.out.Out.{Out}
 use Rattle.ring_core_spec.specs.declared.out.Out.TheVariants.{Send as SendOut, Agreed, Safe, Trans, Rest, Regular}
-use Rattle.ring_core_spec.specs.State.{Core, Report, all_of}
+use Rattle.ring_core_spec.specs.State.{Core, Report, formed_ring_of}
 use Rattle.ring_core_proof.specs.FactWords.{IsIn}
 use Rattle.ring_core_spec.specs.Views.{front, mark}
 use Rattle.ring_core_proof.specs.Worlds.{World}
@@ -41,7 +41,7 @@ NameSameMembers cores =
 pub record AreChains {A : Type 0} (visits : Chains A) (cores : ℕ → Core A) : Type 0 where
   -- A ring has no visits, or its visits follow each other round its members.
   pub rounds : (r : RingId) → (visits r ≡ []) ⊎ IsRound cores r (visits r)
-  pub turns : (q : ℕ) (r : RingId) → turns_of r (cores q).turns ≡ visits_taken_by q (visits r)
+  pub turns : (q : ℕ) (r : RingId) → visits_in_ring r (cores q).turns ≡ visits_taken_by q (visits r)
 
 -- There are lists of visits that the cores' visits are taken from.
 abbrev pub HasChains : {A : Type 0} → (ℕ → Core A) → Type 0
@@ -72,7 +72,7 @@ AreSpaced m first (v ∷ older) = (v.received.number ≡ due_number m first olde
 abbrev pub VisitInTurn : {A : Type 0} → (ℕ → Core A) → Type 0
 VisitInTurn cores =
     (q : ℕ) (ring : RingId) (members : ℕ) → IsProc q → IsMember members q → IsRingOf cores ring members →
-    AreSpaced (size members) (position_of members q) (turns_of ring (cores q).turns)
+    AreSpaced (size members) (position_of members q) (visits_in_ring ring (cores q).turns)
 
 -- Safety
 
@@ -163,8 +163,8 @@ AllHoldMarks n cores = (q : ℕ) (ring : RingId) → AllHold n cores ring (mark 
 
 -- The output is of the formed ring, and what it reports as safe all processors hold.
 abbrev pub IsOfFormed : {A : Type 0} → ℕ → (ℕ → Core A) → Out A → Type 0
-IsOfFormed n cores (Agreed ring k x) = ring ≡ (all_of n).ring
-IsOfFormed n cores (Safe ring upto) = (ring ≡ (all_of n).ring) × AllHold n cores ring upto
+IsOfFormed n cores (Agreed ring k x) = ring ≡ (formed_ring_of n).ring
+IsOfFormed n cores (Safe ring upto) = (ring ≡ (formed_ring_of n).ring) × AllHold n cores ring upto
 IsOfFormed n cores (SendOut to frame) = Unit {0}
 IsOfFormed n cores (Trans old new set) = ⊥
 IsOfFormed n cores (Rest ring k x) = ⊥

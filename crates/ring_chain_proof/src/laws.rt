@@ -7,7 +7,7 @@ ghost use Rattle.std.specs.Prelude.{◌≡◌, ℕ, ◌≤◌, List, [], ◌∷�
 ghost use Rattle.std.specs.declared.alloc.Global.{Global as Heap};
 ghost use Rattle.ring_base.specs.Numbers.{numbers_from};
 ghost use Rattle.ring_base.specs.declared.ring_id.RingId.{RingId};
-ghost use Rattle.ring_core_spec.specs.State.{all_of};
+ghost use Rattle.ring_core_spec.specs.State.{formed_ring_of};
 ghost use Rattle.ring_core_spec.specs.Views.{front};
 ghost use Rattle.ring_core_proof.specs.declared.event.RingEvent.{RingEvent};
 ghost use Rattle.ring_core_proof.specs.Worlds.{run, unformed, run_formed};
@@ -31,7 +31,7 @@ pub fn ring_members_law<A: Allocator + Copy>()
     ensures shared { (n : ℕ) (events : List (RingEvent A)) → SharesRings (run (unformed n) events).cores }
     ensures same { (n : ℕ) (events : List (RingEvent A)) → NameSameMembers (run (unformed n) events).cores }
     ensures parts { (n : ℕ) (events : List (RingEvent A)) → AllTakePart (run (unformed n) events).cores }
-    ensures formed { (n q : ℕ) (events : List (RingEvent A)) → ((run_formed n events).cores q).rings ≡ all_of n ∷ [] }
+    ensures formed { (n q : ℕ) (events : List (RingEvent A)) → ((run_formed n events).cores q).rings ≡ formed_ring_of n ∷ [] }
 {}
 
 /// States the facts of the two rounds of the commit tokens, in every run from the opening.
@@ -49,11 +49,11 @@ pub fn commit_rounds_law<A: Allocator + Copy>()
 /// States that all visits of a ring's token form one list, in every run, from the opening and from a formed ring.
 ///
 /// In each visit the member whose turn it is takes the token as the visit before forwarded it, and follows the rules.
-/// The visits that a processor records are its own in this list. By `ring_core_spec::safe_law` they make the ring safe
+/// The visits that a processor records are its own in this list. By `ring_core_spec::two_visits_safe_law` they make the ring safe
 /// up to their marks.
 ///
 /// Rules: Token and window 7 and 13
-pub fn chain_law<A: Allocator + Copy>()
+pub fn one_chain_of_visits_law<A: Allocator + Copy>()
     ensures unformed { (n : ℕ) (events : List (RingEvent A)) → HasChains (run (unformed n) events).cores }
     ensures formed { (n : ℕ) (events : List (RingEvent A)) → 1 ≤ n → HasChains (run_formed n events).cores }
 {}
@@ -65,18 +65,18 @@ pub fn chain_law<A: Allocator + Copy>()
 /// whole round apart.
 ///
 /// Rules: Token and window 7
-pub fn spacing_law<A: Allocator + Copy>()
+pub fn visit_numbers_law<A: Allocator + Copy>()
     ensures unformed { (n : ℕ) (events : List (RingEvent A)) → VisitInTurn (run (unformed n) events).cores }
     ensures formed { (n : ℕ) (events : List (RingEvent A)) → 1 ≤ n → VisitInTurn (run_formed n events).cores }
 {}
 
 /// States that each number of a ring has one sender and one payload, whichever processors hold it, in every run.
 ///
-/// Every message held was numbered by its sender in one of the visits of [`chain_law`], and so was the message that it
+/// Every message held was numbered by its sender in one of the visits of [`one_chain_of_visits_law`], and so was the message that it
 /// wraps.
 ///
 /// Rules: Outputs 8
-pub fn text_law<A: Allocator + Copy>()
+pub fn one_text_law<A: Allocator + Copy>()
     ensures unformed { (n : ℕ) (events : List (RingEvent A)) (ring : RingId) → HasOneText (run (unformed n) events) ring }
     ensures formed { (n : ℕ) (events : List (RingEvent A)) (ring : RingId) → 1 ≤ n → HasOneText (run_formed n events) ring }
     ensures numbered { (n : ℕ) (events : List (RingEvent A)) → HasNumbered (run (unformed n) events).cores }
@@ -108,15 +108,15 @@ pub fn one_plan_law<A: Allocator + Copy>()
 /// States that processors output what they hold, in every run.
 ///
 /// Each message given under a number, as `Agreed` or `Rest`, is the user message that the processor holds under that
-/// number, then and ever after. By [`text_law`] it is the ring's only message of that number. In a formed ring the
+/// number, then and ever after. By [`one_text_law`] it is the ring's only message of that number. In a formed ring the
 /// `Agreed` of each processor have the numbers 1, 2, 3 and so on up to its front, each once.
 ///
 /// Rules: Outputs 3 and 5
-pub fn agreed_law<A: Allocator + Copy>()
+pub fn outputs_are_held_law<A: Allocator + Copy>()
     ensures unformed { (n : ℕ) (events : List (RingEvent A)) → OutputsAreHeld (run (unformed n) events) }
     ensures formed { (n : ℕ) (events : List (RingEvent A)) → 1 ≤ n → OutputsAreHeld (run_formed n events) }
     ensures numbers { (n i : ℕ) (events : List (RingEvent A)) → agreed_numbers (run_formed n events) i
-        ≡ numbers_from 1 (front ((run_formed n events).cores i) (all_of n).ring) }
+        ≡ numbers_from 1 (front ((run_formed n events).cores i) (formed_ring_of n).ring) }
 {}
 
 /// States that each member of a ring holds every number that any processor's `Safe` covers, then and ever after.
@@ -125,7 +125,7 @@ pub fn agreed_law<A: Allocator + Copy>()
 /// every run. In a run from a formed ring all outputs other than frames are `Agreed` or `Safe` of that ring.
 ///
 /// Rules: Outputs 4
-pub fn told_law<A: Allocator + Copy>()
+pub fn safe_outputs_law<A: Allocator + Copy>()
     ensures unformed { (n : ℕ) (events : List (RingEvent A)) → SafeOutputsAreSafe (run (unformed n) events) }
     ensures formed { (n : ℕ) (events : List (RingEvent A)) → 1 ≤ n → AllIsOfFormed n (run_formed n events) }
 {}
@@ -139,22 +139,22 @@ pub fn formed_facts_law<A: Allocator + Copy>()
     ensures { (n i : ℕ) (events : List (RingEvent A)) → 1 ≤ i → i ≤ n → LocalFacts ((run_formed n events).cores i) }
 {}
 
-/// States [`text_law`] from the opening for the allocator that programs use. Nothing calls this function.
+/// States [`one_text_law`] from the opening for the allocator that programs use. Nothing calls this function.
 ///
 /// A law is proved for all allocators that meet its bounds; this function shows that `Global` does.
 ///
 /// Rules: Outputs 8
-pub fn laws_at_global()
+pub fn chain_laws_at_global()
     ensures { (n : ℕ) (events : List (RingEvent Heap)) (ring : RingId) → HasOneText (run (unformed n) events) ring }
 {
     ring_members_law::<Global>();
     commit_rounds_law::<Global>();
-    chain_law::<Global>();
-    spacing_law::<Global>();
+    one_chain_of_visits_law::<Global>();
+    visit_numbers_law::<Global>();
     safe_mark_law::<Global>();
     one_plan_law::<Global>();
-    told_law::<Global>();
+    safe_outputs_law::<Global>();
     formed_facts_law::<Global>();
-    agreed_law::<Global>();
-    text_law::<Global>();
+    outputs_are_held_law::<Global>();
+    one_text_law::<Global>();
 }

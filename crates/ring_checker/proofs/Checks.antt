@@ -10,14 +10,14 @@ use Rattle.ring_base.proofs.ListPlaces.{get-last, has-place}
 use Rattle.ring_object.specs.Operations.{Sequential, content_after}
 use Rattle.ring_payload.specs.declared.call.Call.{Call}
 use Rattle.ring_payload.specs.SameCalls.{is_same-self}
-use Rattle.ring_session.specs.Deduplicated.{StandsAt, IsNumbered, operations}
+use Rattle.ring_session.specs.Deduplicated.{IsCallAt, IsNumbered, operations}
 use Rattle.ring_session.specs.DeduplicatedLaws.{numbered_once}
 use Rattle.ring_session.specs.SessionAnswer.{call_reply}
 use Rattle.ring_session.specs.SessionAnswerLaws.{is_same-true}
 use Rattle.ring_checker.specs.declared.check.OrderPlace.{OrderPlace}
 use Rattle.ring_node_spec.specs.declared.item.Item.{Item}
 use Rattle.ring_node_spec.specs.declared.item.Item.TheVariants.{Issue, Reply}
-use Rattle.ring_checker.specs.Checks.{is_issue_of, first_issue, place_in, IsIssuedBefore, AreIssuedBefore, ArePlaces, IsRightAt, IsRightIn, AreRight}
+use Rattle.ring_checker.specs.Checks.{is_issue_of, first_issue, place_in, IsIssuedBefore, AreIssuedBefore, ArePlaces, IsReplyAtPlace, IsItemRightAt, AreRepliesRight}
 use Rattle.ring_checker.proofs.Places.{place_in-stands, place_in-numbered}
 use Rattle.ring_node_spec.specs.Histories.{IsIssuedAt, IsRepliedAt, IsLinearization}
 use Rattle.ring_node_spec.proofs.Linear.{all-at}
@@ -42,33 +42,33 @@ first_issue-least history c k issued = position-least (is_issue_of c) history k 
 -- ---- the replies of one place
 
 pub right_at-found : (issued : List OrderPlace) (at : ℕ) (r : List ℕ) (place : OrderPlace) (same : Bool) → slice_get issued at ≡ Some place
-    → (same ≡ true → place.reply ≡ r) → (place.reply ≡ r → same ≡ true) → IsTrue same ↔ IsRightAt issued at r
+    → (same ≡ true → place.reply ≡ r) → (place.reply ≡ r → same ≡ true) → IsTrue same ↔ IsReplyAtPlace issued at r
 right_at-found issued at r place same is told back = (
   λ so. (place, is, told so),
   λ right. let found : Some place ≡ Some right.0 = sym is
       ∙ right.1 in let one : place ≡ right.0 = cc found in back (ap (λ (w : OrderPlace). w.reply) one ∙ right.2),
 )
 
-pub right_at-none : (issued : List OrderPlace) (at : ℕ) (r : List ℕ) → slice_get issued at ≡ None → IsTrue false ↔ IsRightAt issued at r
+pub right_at-none : (issued : List OrderPlace) (at : ℕ) (r : List ℕ) → slice_get issued at ≡ None → IsTrue false ↔ IsReplyAtPlace issued at r
 right_at-none issued at r is = (λ so. absurd (cc so), λ right. absurd (cc (is, right.1)))
 
 -- ---- the object's run over the order
 
-content-next : {O A : Type 0} (object : Sequential O) (o : O) (order : List (Call A)) (n : ℕ) (c : Call A) → StandsAt order n c
+content-next : {O A : Type 0} (object : Sequential O) (o : O) (order : List (Call A)) (n : ℕ) (c : Call A) → IsCallAt order n c
     → content_after object o (take (suc n) (operations order)) ≡ object.next (content_after object o (take n (operations order))) c.op
 content-next object o [] n c at = absurd (cc at)
 content-next {O} {A} object o (d ∷ ds) zero c at = let is : d ≡ c = cc at in ap (λ (w : Call A). object.next o w.op) is
 content-next object o (d ∷ ds) (suc n) c at = content-next object (object.next o d.op) ds n c at
 
 -- the content after one more call
-pub content-step : {O A : Type 0} (object : Sequential O) (o more : O) (order : List (Call A)) (n : ℕ) (c : Call A) → StandsAt order n c
+pub content-step : {O A : Type 0} (object : Sequential O) (o more : O) (order : List (Call A)) (n : ℕ) (c : Call A) → IsCallAt order n c
     → o ≡ content_after object object.initial (take n (operations order)) → more ≡ object.next o c.op
     → more ≡ content_after object object.initial (take (n + 1) (operations order))
 content-step object o more order n c at is done =
     done ∙ ap (λ w. object.next w c.op) is ∙ sym (content-next object object.initial order n c at)
     ∙ ap (λ m. content_after object object.initial (take m (operations order))) (sym (add-one n))
 
-operation-at : {A : Type 0} (order : List (Call A)) (n : ℕ) (c : Call A) → StandsAt order n c → slice_index_or (operations order) n [] ≡ c.op
+operation-at : {A : Type 0} (order : List (Call A)) (n : ℕ) (c : Call A) → IsCallAt order n c → slice_index_or (operations order) n [] ≡ c.op
 operation-at [] n c at = absurd (cc at)
 operation-at {A} (d ∷ ds) zero c at = let is : d ≡ c = cc at in ap (λ (w : Call A). w.op) is
 operation-at (d ∷ ds) (suc n) c at = operation-at ds n c at
@@ -84,7 +84,7 @@ place-is place issued reply first told =
 module _ {O A : Type 0} (object : Sequential O) where
   -- one more place
   pub places-push : (order : List (Call A)) (history : List (Item A)) (n : ℕ) (places : List OrderPlace) (o : O)
-      (c : Call A) (place : OrderPlace) → ArePlaces object order history n places → StandsAt order n c
+      (c : Call A) (place : OrderPlace) → ArePlaces object order history n places → IsCallAt order n c
       → o ≡ content_after object object.initial (take n (operations order)) → place.issued ≡ first_issue history c → place.reply ≡ object.reply o c.op
       → ArePlaces object order history (n + 1) (places ++ place ∷ [])
   places-push order history n places o c place are at is issued replied = record {
@@ -114,13 +114,13 @@ module _ {O A : Type 0} (object : Sequential O) where
 
   -- the place of a call of the order
   place-at : (order : List (Call A)) (history : List (Item A)) (places : List OrderPlace) (q : ℕ) (c : Call A)
-      → ArePlaces object order history (length order) places → StandsAt order q c
+      → ArePlaces object order history (length order) places → IsCallAt order q c
       → slice_get places q ≡ Some (record { issued = first_issue history c; reply = call_reply object order q })
   place-at order history places q c are stands = are.each q c (slice_get_within order q c stands) stands
 
   -- a call that was issued before k
   issued-at : (order : List (Call A)) (history : List (Item A)) (places : List OrderPlace) (n k q : ℕ) (c : Call A)
-      → ArePlaces object order history (length order) places → StandsAt order q c → q < n
+      → ArePlaces object order history (length order) places → IsCallAt order q c → q < n
       → AreIssuedBefore (take n places) k → (j : ℕ) × IsIssuedAt history c j × (j < k)
   issued-at order history places n k q c are stands within before =
       let place : OrderPlace = record { issued = first_issue history c; reply = call_reply object order q } in
@@ -132,7 +132,7 @@ module _ {O A : Type 0} (object : Sequential O) where
   -- the place of a right reply; the calls up to it were issued before
   record IsRight (order : List (Call A)) (places : List OrderPlace) (k : ℕ) (c : Call A) (r : List ℕ) : Type 0 where
     at : ℕ
-    stands : StandsAt order at c
+    stands : IsCallAt order at c
     place : OrderPlace
     there : slice_get places at ≡ Some place
     reply : place.reply ≡ r
@@ -140,10 +140,10 @@ module _ {O A : Type 0} (object : Sequential O) where
     issued : AreIssuedBefore (take front places) k
     within : at < front
 
-  right-place : (order : List (Call A)) (places : List OrderPlace) (k : ℕ) (c : Call A) (r : List ℕ) → IsRightIn order places k (Reply c r)
+  right-place : (order : List (Call A)) (places : List OrderPlace) (k : ℕ) (c : Call A) (r : List ℕ) → IsItemRightAt order places k (Reply c r)
       → IsRight order places k c r
   right-place order places k c r right =
-      let found = option-some (place_in order c) (λ at. IsRightAt (take right.0 places) at r) right.2 in
+      let found = option-some (place_in order c) (λ at. IsReplyAtPlace (take right.0 places) at r) right.2 in
       record {
         at = found.0;
         stands = place_in-stands order c found.0 found.1;
@@ -158,7 +158,7 @@ module _ {O A : Type 0} (object : Sequential O) where
   -- what passes the checks explains the history
   pub checked-linear : (order : List (Call A)) (history : List (Item A)) (places : List OrderPlace) → IsNumbered order
       → ArePlaces object order history (length order) places
-      → AreIssuedBefore places (length history) → AreRight order places history → IsLinearization object order history
+      → AreIssuedBefore places (length history) → AreRepliesRight order places history → IsLinearization object order history
   checked-linear order history places numbered are issued right = record {
     numbered = numbered;
     issued = λ p c stands.
@@ -177,7 +177,7 @@ module _ {O A : Type 0} (object : Sequential O) where
         (there.at, there.stands, sym (ap (λ (w : OrderPlace). w.reply) place) ∙ there.reply);
     ordered = λ k a b r q at late stands.
         let there = right-place order places k a r (right k (Reply a r) at) in
-        elim (cases_lt there.at q) as (λ _. (p : ℕ) × StandsAt order p a × (p < q)) [
+        elim (cases_lt there.at q) as (λ _. (p : ℕ) × IsCallAt order p a × (p < q)) [
           | inl before ↦ (there.at, there.stands, before)
           | inr past ↦
               let early = issued-at order history places there.front k q b are stands (omega (arith, past, there.within)) there.issued in
@@ -201,7 +201,7 @@ module _ {O A : Type 0} (object : Sequential O) where
 
   -- a call up to the place of a replied one was issued before that reply
   linear-early : (order : List (Call A)) (history : List (Item A)) (k p q : ℕ) (c b : Call A) (r : List ℕ) → IsLinearization object order history
-      → IsRepliedAt history c r k → StandsAt order p c → StandsAt order q b → q ≤ p → (j : ℕ) × (first_issue history b ≡ Some j) × (j < k)
+      → IsRepliedAt history c r k → IsCallAt order p c → IsCallAt order q b → q ≤ p → (j : ℕ) × (first_issue history b ≡ Some j) × (j < k)
   linear-early order history k p q c b r linear at stands there upto =
       let issued = linear.issued q b there in
       let least = first_issue-least history b issued.0 issued.1 in
@@ -227,7 +227,7 @@ module _ {O A : Type 0} (object : Sequential O) where
 
   -- its replies are right
   pub linear-right_items : (order : List (Call A)) (history : List (Item A)) (places : List OrderPlace) → ArePlaces object order history (length order) places
-      → IsLinearization object order history → AreRight order places history
+      → IsLinearization object order history → AreRepliesRight order places history
   linear-right_items order history places are linear k (Issue c) at = (0, All-nil (λ (w : OrderPlace). IsIssuedBefore w k), tt)
   linear-right_items order history places are linear k (Reply c r) at =
       let replied = linear.reply_items k c r at in
@@ -245,14 +245,14 @@ module _ {O A : Type 0} (object : Sequential O) where
       let there = get-take (p + 1) places p place (omega arith) (place-at order history places p c are replied.1) in (
         p + 1,
         before,
-        some-option (place_in order c) (λ at. IsRightAt (take (p + 1) places) at r) p
+        some-option (place_in order c) (λ at. IsReplyAtPlace (take (p + 1) places) at r) p
             (place_in-numbered order c p linear.numbered replied.1) (place, there, replied.2),
       )
 
   -- if the calls were issued, the last check decides
   pub explains-issued : (order : List (Call A)) (history : List (Item A)) (places : List OrderPlace) (issued right : Bool)
       → IsNumbered order → ArePlaces object order history (length order) places
-      → (IsTrue issued ↔ AreIssuedBefore places (length history)) → issued ≡ true → (IsTrue right ↔ AreRight order places history)
+      → (IsTrue issued ↔ AreIssuedBefore places (length history)) → issued ≡ true → (IsTrue right ↔ AreRepliesRight order places history)
       → IsTrue right ↔ IsLinearization object order history
   explains-issued order history places issued right numbered are before so rights = (
     λ is. checked-linear order history places numbered are (before.0 so) (rights.0 is),

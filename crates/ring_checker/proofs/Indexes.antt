@@ -11,11 +11,11 @@ use Rattle.ring_base.proofs.ListPlaces.{get-last}
 use Rattle.ring_base.proofs.Rows.{take-more}
 use Rattle.ring_payload.specs.declared.call.Call.{Call}
 use Rattle.ring_payload.specs.SameCalls.{is_same-self}
-use Rattle.ring_session.specs.Deduplicated.{count_of, StandsAt, IsNumbered}
+use Rattle.ring_session.specs.Deduplicated.{count_of, IsCallAt, IsNumbered}
 use Rattle.ring_session.specs.DeduplicatedLaws.{count_of-push_own, count_of-push_other}
 use Rattle.ring_session.specs.SessionAnswer.{is_same}
 use Rattle.ring_session.specs.SessionAnswerLaws.{is_same-true}
-use Rattle.ring_checker.specs.Checks.{place_in, row_of, places_of, by_number, place_at, AddsPlace, IsIndexOf}
+use Rattle.ring_checker.specs.Checks.{place_in, index_row_of, places_of, place_by_call_number, place_at, AddsPlace, IsIndexOf}
 use Rattle.ring_checker.proofs.Places.{none_or_some, place_in-stands, place_in-least}
 use Rattle.ring_node_spec.proofs.FirstMatch.{EachUpTo}
 
@@ -47,33 +47,33 @@ push-apart [] y (suc k) apart = refl
 push-apart (x ∷ xs) y zero apart = refl
 push-apart (x ∷ xs) y (suc k) apart = push-apart xs y k (λ same. apart (ap suc same))
 
-by_number-push : (row : List ℕ) (p n : ℕ) → (n ≡ length row + 1 → ⊥) → by_number (row ++ p ∷ []) n ≡ by_number row n
-by_number-push row p zero apart = refl
-by_number-push row p (suc k) apart = push-apart row p k (λ same. apart (ap suc same ∙ sym (add-one (length row))))
+place_by_call_number-push : (row : List ℕ) (p n : ℕ) → (n ≡ length row + 1 → ⊥) → place_by_call_number (row ++ p ∷ []) n ≡ place_by_call_number row n
+place_by_call_number-push row p zero apart = refl
+place_by_call_number-push row p (suc k) apart = push-apart row p k (λ same. apart (ap suc same ∙ sym (add-one (length row))))
 
-by_number-last : (row : List ℕ) (p : ℕ) → by_number (row ++ p ∷ []) (length row + 1) ≡ Some p
-by_number-last row p = ap (by_number (row ++ p ∷ [])) (add-one (length row)) ∙ get-last row p
+place_by_call_number-last : (row : List ℕ) (p : ℕ) → place_by_call_number (row ++ p ∷ []) (length row + 1) ≡ Some p
+place_by_call_number-last row p = ap (place_by_call_number (row ++ p ∷ [])) (add-one (length row)) ∙ get-last row p
 
-by_number-within : (row : List ℕ) (n p : ℕ) → by_number row n ≡ Some p → n ≡ length row + 1 → ⊥
-by_number-within row zero p is past = absurd (cc is)
-by_number-within row (suc k) p is past = let within = slice_get_within row k p is in omega (arith, within, past)
+place_by_call_number-within : (row : List ℕ) (n p : ℕ) → place_by_call_number row n ≡ Some p → n ≡ length row + 1 → ⊥
+place_by_call_number-within row zero p is past = absurd (cc is)
+place_by_call_number-within row (suc k) p is past = let within = slice_get_within row k p is in omega (arith, within, past)
 
-by_number-none : (n : ℕ) → by_number [] n ≡ None
-by_number-none zero = refl
-by_number-none (suc k) = refl
+place_by_call_number-none : (n : ℕ) → place_by_call_number [] n ≡ None
+place_by_call_number-none zero = refl
+place_by_call_number-none (suc k) = refl
 
 -- looking up a place finds none: the client is unknown, or it has no such number
 pub place_at-unknown : {A : Type 0} (index : BTreeMap ℕ (Vec ℕ A)) (client number : ℕ) → get nat_cmp index client ≡ None
     → None ≡ place_at index (client, number)
 place_at-unknown {A} index client number none =
-    sym (ap (λ (o : Option (Vec ℕ A)). by_number (row_of o) number) none ∙ by_number-none number)
+    sym (ap (λ (o : Option (Vec ℕ A)). place_by_call_number (index_row_of o) number) none ∙ place_by_call_number-none number)
 
 -- ---- one more place
 
 -- the number of places of a client
 pub count-row : {A : Type 0} (index : BTreeMap ℕ (Vec ℕ A)) (client : ℕ) (was : Option (Vec ℕ A)) → get nat_cmp index client ≡ was
-    → length (row_of was) ≡ length (places_of index client)
-count-row index client was is = ap (λ (o : Option (Vec ℕ _)). length (row_of o)) (sym is)
+    → length (index_row_of was) ≡ length (places_of index client)
+count-row index client was is = ap (λ (o : Option (Vec ℕ _)). length (index_row_of o)) (sym is)
 
 -- ---- the index
 
@@ -97,7 +97,7 @@ indexed-none {A} order index empty =
     }
 
 -- the number of a client's calls, with one more call
-counts-more : {A : Type 0} (order : List (Call A)) (n q : ℕ) (c : Call A) (old new : BTreeMap ℕ (Vec ℕ A)) → IsIndexed order n old → StandsAt order n c
+counts-more : {A : Type 0} (order : List (Call A)) (n q : ℕ) (c : Call A) (old new : BTreeMap ℕ (Vec ℕ A)) → IsIndexed order n old → IsCallAt order n c
     → AddsPlace old new c.client n → length (places_of new q) ≡ count_of q (take (n + 1) order)
 counts-more order n q c old new are at adds =
     let grown : count_of q (take n order ++ c ∷ []) ≡ count_of q (take (n + 1) order) = ap (count_of q) (sym (take-more order n c at)) in
@@ -127,27 +127,27 @@ place_at-more {A} n c old new name adds next =
                 inl (
                   client,
                   number,
-                  ap (λ (xs : List ℕ). by_number xs name.1) row ∙ ap (by_number (places_of old c.client ++ n ∷ [])) last
-                      ∙ by_number-last (places_of old c.client) n,
+                  ap (λ (xs : List ℕ). place_by_call_number xs name.1) row ∙ ap (place_by_call_number (places_of old c.client ++ n ∷ [])) last
+                      ∙ place_by_call_number-last (places_of old c.client) n,
                 )
             | inr apart ↦
-                inr (ap (λ (xs : List ℕ). by_number xs name.1) row
-                ∙ by_number-push (places_of old c.client) n name.1 (λ last. apart (next ∙ sym last))
-                ∙ ap (λ k. by_number (places_of old k) name.1) client)
+                inr (ap (λ (xs : List ℕ). place_by_call_number xs name.1) row
+                ∙ place_by_call_number-push (places_of old c.client) n name.1 (λ last. apart (next ∙ sym last))
+                ∙ ap (λ k. place_by_call_number (places_of old k) name.1) client)
           ]
-      | inr apart ↦ inr (ap (λ (xs : List ℕ). by_number xs name.1) (adds.others name.0 apart))
+      | inr apart ↦ inr (ap (λ (xs : List ℕ). place_by_call_number xs name.1) (adds.others name.0 apart))
     ]
 
-index-more : {A : Type 0} (order : List (Call A)) (n : ℕ) (c : Call A) (old new : BTreeMap ℕ (Vec ℕ A)) → IsIndexOf order n old → StandsAt order n c
+index-more : {A : Type 0} (order : List (Call A)) (n : ℕ) (c : Call A) (old new : BTreeMap ℕ (Vec ℕ A)) → IsIndexOf order n old → IsCallAt order n c
     → c.number ≡ length (places_of old c.client) + 1 → AddsPlace old new c.client n → IsIndexOf order (n + 1) new
 index-more {A} order n c old new is_index at next adds = record {
   found = λ name p is.
       elim (place_at-more n c old new name adds next)
-      as (λ _. (d : Call A) × (p < n + 1) × StandsAt order p d × (d.client ≡ name.0) × (d.number ≡ name.1)) [
+      as (λ _. (d : Call A) × (p < n + 1) × IsCallAt order p d × (d.client ≡ name.0) × (d.number ≡ name.1)) [
         | inl own ↦
             let one : Some n ≡ Some p = sym own.2 ∙ is in
             let place : n ≡ p = cc one in
-            (c, omega (arith, place), subst (λ k. StandsAt order k c) place at, own.0, own.1)
+            (c, omega (arith, place), subst (λ k. IsCallAt order k c) place at, own.0, own.1)
         | inr same ↦
             let before = is_index.found name p (sym same ∙ is) in
             (before.0, omega (arith, before.1), before.2, before.3, before.4)
@@ -160,21 +160,21 @@ index-more {A} order n c old new is_index at next adds = record {
               | inl own ↦
                   let row : places_of old d.client ≡ places_of old c.client = ap (places_of old) (sym own.0) in
                   let last : d.number ≡ length (places_of old d.client) + 1 = sym own.1 ∙ next ∙ ap (λ (xs : List ℕ). length xs + 1) (sym row) in
-                  absurd (by_number-within (places_of old d.client) d.number p was last)
+                  absurd (place_by_call_number-within (places_of old d.client) d.number p was last)
               | inr same ↦ same ∙ was
             ]
         | inr past ↦
             let place : n ≡ p = omega (arith, within, past) in
             let one : Some c ≡ Some d = sym at ∙ ap (slice_get order) place ∙ there in
             let call : c ≡ d = cc one in
-            let last : place_at new (c.client, c.number) ≡ Some n = ap (λ (xs : List ℕ). by_number xs c.number) adds.own
-            ∙ ap (by_number (places_of old c.client ++ n ∷ [])) next ∙ by_number-last (places_of old c.client) n in
+            let last : place_at new (c.client, c.number) ≡ Some n = ap (λ (xs : List ℕ). place_by_call_number xs c.number) adds.own
+            ∙ ap (place_by_call_number (places_of old c.client ++ n ∷ [])) next ∙ place_by_call_number-last (places_of old c.client) n in
             ap (λ (w : Call A). place_at new (w.client, w.number)) (sym call) ∙ last ∙ ap Some place
       ];
 }
 
 -- one more place
-pub indexed-more : {A : Type 0} (order : List (Call A)) (n : ℕ) (c : Call A) (old new : BTreeMap ℕ (Vec ℕ A)) → IsIndexed order n old → StandsAt order n c
+pub indexed-more : {A : Type 0} (order : List (Call A)) (n : ℕ) (c : Call A) (old new : BTreeMap ℕ (Vec ℕ A)) → IsIndexed order n old → IsCallAt order n c
     → c.number ≡ length (places_of old c.client) + 1 → AddsPlace old new c.client n → IsIndexed order (n + 1) new
 indexed-more order n c old new are at next adds = record {
   numbered = each-more (HasNext order) order n c are.numbered at (next ∙ ap (λ m. m + 1) (are.counts c.client));
@@ -184,7 +184,7 @@ indexed-more order n c old new are at next adds = record {
 
 -- a call whose number isn't its client's next
 pub unnumbered : {A : Type 0} (order : List (Call A)) (n : ℕ) (c : Call A) (index : BTreeMap ℕ (Vec ℕ A)) → IsIndexed order n index
-    → StandsAt order n c → (c.number ≡ length (places_of index c.client) + 1 → ⊥) → IsTrue false ↔ IsNumbered order
+    → IsCallAt order n c → (c.number ≡ length (places_of index c.client) + 1 → ⊥) → IsTrue false ↔ IsNumbered order
 unnumbered order n c index are at not_next = (
   λ so. absurd (cc so),
   λ numbered. absurd (not_next (numbered n c at ∙ ap (λ m. m + 1) (sym (are.counts c.client)))),
@@ -197,7 +197,7 @@ all_numbered order n index are all =
 
 -- two places with one name are equal
 pub index-once : {A : Type 0} (order : List (Call A)) (index : BTreeMap ℕ (Vec ℕ A)) (p q : ℕ) (c : Call A) → IsIndexOf order (length order) index
-    → StandsAt order p c → StandsAt order q c → p ≡ q
+    → IsCallAt order p c → IsCallAt order q c → p ≡ q
 index-once order index p q c is_index at there =
     let first = is_index.finds p c (slice_get_within order p c at) at in
     let second = is_index.finds q c (slice_get_within order q c there) there in
@@ -208,7 +208,7 @@ index-once order index p q c is_index at there =
 
 -- the index has another operation there
 pub place-other : {A : Type 0} (order : List (Call A)) (index : BTreeMap ℕ (Vec ℕ A)) (p : ℕ) (c d : Call A) → IsIndexOf order (length order) index
-    → place_at index (c.client, c.number) ≡ Some p → StandsAt order p d → is_same c d ≡ false → None ≡ place_in order c
+    → place_at index (c.client, c.number) ≡ Some p → IsCallAt order p d → is_same c d ≡ false → None ≡ place_in order c
 place-other order index p c d is_index is at differ =
     elim (none_or_some (place_in order c)) as (λ _. None ≡ place_in order c) [
       | inl none ↦ sym none
@@ -235,9 +235,9 @@ place-none order index c is_index is =
 
 -- the call is there
 pub place-found : {A : Type 0} (order : List (Call A)) (index : BTreeMap ℕ (Vec ℕ A)) (p : ℕ) (c d : Call A) → IsIndexOf order (length order) index
-    → StandsAt order p d → is_same c d ≡ true → Some p ≡ place_in order c
+    → IsCallAt order p d → is_same c d ≡ true → Some p ≡ place_in order c
 place-found order index p c d is_index at same =
-    let stands : StandsAt order p c = at ∙ ap Some (is_same-true c d same) in
+    let stands : IsCallAt order p c = at ∙ ap Some (is_same-true c d same) in
     let least = place_in-least order c p stands in
     let place = index-once order index p least.0 c is_index stands (place_in-stands order c least.0 least.1) in
     ap Some place ∙ sym least.1

@@ -7,7 +7,7 @@ use Rattle.ring_base.proofs.Rows.{take-more}
 use Rattle.ring_base.proofs.ListPlaces.{has-place}
 use Rattle.ring_payload.specs.declared.call.Call.{Call}
 use Rattle.ring_checker.specs.declared.check.OrderPlace.{OrderPlace}
-use Rattle.ring_checker.specs.Checks.{place_in, IsIssuedBefore, AreIssuedBefore, IsIssuedFront, IsRightAt, IsRightItem, IsRightIn, AreRight}
+use Rattle.ring_checker.specs.Checks.{place_in, IsIssuedBefore, AreIssuedBefore, IsIssuedFront, IsReplyAtPlace, IsRightItem, IsItemRightAt, AreRepliesRight}
 use Rattle.ring_node_spec.specs.declared.item.Item.{Item}
 use Rattle.ring_node_spec.specs.declared.item.Item.TheVariants.{Issue, Reply}
 use Rattle.ring_node_spec.proofs.FirstMatch.{EachUpTo, all-from_places, take-within, take-get, get-take, option-some, some-option}
@@ -64,19 +64,19 @@ front-most places k m n at place front issued there =
 
 -- an item that is right by some issued places is right by all of them
 pub right-most : {A : Type 0} (order : List (Call A)) (places : List OrderPlace) (k m : ℕ) (item : Item A) → IsIssuedFront places k m
-    → IsRightIn order places k item → IsRightItem order (take m places) item
+    → IsItemRightAt order places k item → IsRightItem order (take m places) item
 right-most order places k m (Issue c) front right = tt
 right-most order places k m (Reply c r) front right =
-    let found = option-some (place_in order c) (λ at. IsRightAt (take right.0 places) at r) right.2 in
-    some-option (place_in order c) (λ at. IsRightAt (take m places) at r) found.0 found.1
+    let found = option-some (place_in order c) (λ at. IsReplyAtPlace (take right.0 places) at r) right.2 in
+    some-option (place_in order c) (λ at. IsReplyAtPlace (take m places) at r) found.0 found.1
     (found.2.0, front-most places k m right.0 found.0 found.2.0 front right.1 found.2.1, found.2.2)
 
 pub right-not : {A : Type 0} (order : List (Call A)) (places : List OrderPlace) (history : List (Item A)) (k m : ℕ) (item : Item A) → slice_get history k ≡ Some item
-    → IsIssuedFront places k m → (IsRightItem order (take m places) item → ⊥) → IsTrue false ↔ AreRight order places history
+    → IsIssuedFront places k m → (IsRightItem order (take m places) item → ⊥) → IsTrue false ↔ AreRepliesRight order places history
 right-not order places history k m item at front wrong =
     (λ so. absurd (cc so), λ right. absurd (wrong (right-most order places k m item front (right k item at))))
 
 pub right-all : {A : Type 0} (order : List (Call A)) (places : List OrderPlace) (history : List (Item A)) (n : ℕ)
-    → EachUpTo (IsRightIn order places) history n → length history ≤ n → IsTrue true ↔ AreRight order places history
+    → EachUpTo (IsItemRightAt order places) history n → length history ≤ n → IsTrue true ↔ AreRepliesRight order places history
 right-all order places history n each all =
     (λ _ k item at. each k item (omega (arith, all, slice_get_within history k item at)) at, λ _. refl)

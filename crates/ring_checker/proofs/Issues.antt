@@ -12,7 +12,7 @@ use Rattle.ring_base.proofs.ListPlaces.{get-set, get-set_other}
 use Rattle.ring_object.specs.Operations.{Sequential}
 use Rattle.ring_payload.specs.declared.call.Call.{Call}
 use Rattle.ring_payload.specs.SameCalls.{is_same-self}
-use Rattle.ring_session.specs.Deduplicated.{StandsAt}
+use Rattle.ring_session.specs.Deduplicated.{IsCallAt}
 use Rattle.ring_session.specs.SessionAnswer.{is_same, call_reply}
 use Rattle.ring_session.specs.SessionAnswerLaws.{is_same-true}
 use Rattle.ring_checker.specs.declared.check.OrderPlace.{OrderPlace}
@@ -97,18 +97,18 @@ position-new p xs y none passes =
 -- ---- the places, after one more item
 
 -- a place, from its fields
-abbrev pub place_by : Option ℕ → List ℕ → OrderPlace
-place_by issued reply = record { issued = issued; reply = reply }
+abbrev pub place_near_or_indexed : Option ℕ → List ℕ → OrderPlace
+place_near_or_indexed issued reply = record { issued = issued; reply = reply }
 
 module _ {O A : Type 0} (object : Sequential O) where
   -- an item that issues no call of the order changes nothing
   other_item : (order : List (Call A)) (past : List (Item A)) (places : List OrderPlace) (item : Item A)
-      → ((q : ℕ) (c : Call A) → StandsAt order q c → is_issue_of c item ≡ false) → ArePlaces object order past (length order) places
+      → ((q : ℕ) (c : Call A) → IsCallAt order q c → is_issue_of c item ≡ false) → ArePlaces object order past (length order) places
       → ArePlaces object order (past ++ item ∷ []) (length order) places
   other_item order past places item other are = record {
     many = are.many;
     each = λ q c within at. are.each q c within at
-        ∙ ap (λ first. Some (place_by first (call_reply object order q))) (sym (position-fails (is_issue_of c) past item (other q c at)));
+        ∙ ap (λ first. Some (place_near_or_indexed first (call_reply object order q))) (sym (position-fails (is_issue_of c) past item (other q c at)));
   }
 
   pub reply_item : (order : List (Call A)) (past : List (Item A)) (places : List OrderPlace) (item : Item A) (c : Call A) (r : List ℕ) → item ≡ Reply c r
@@ -116,10 +116,10 @@ module _ {O A : Type 0} (object : Sequential O) where
   reply_item order past places item c r is are = other_item order past places item (λ q d at. ap (is_issue_of d) is) are
 
   -- a call that is in the order differs from one that isn't
-  not_there : (order : List (Call A)) (c d : Call A) (q : ℕ) → place_in order d ≡ None → StandsAt order q c → is_same c d ≡ false
+  not_there : (order : List (Call A)) (c d : Call A) (q : ℕ) → place_in order d ≡ None → IsCallAt order q c → is_same c d ≡ false
   not_there order c d q none at = elim (cases_Bool (is_same c d)) as (λ _. is_same c d ≡ false) [
     | inl same ↦
-        let stands : StandsAt order q d = at ∙ ap Some (sym (is_same-true c d same)) in
+        let stands : IsCallAt order q d = at ∙ ap Some (sym (is_same-true c d same)) in
         let least = place_in-least order d q stands in
         absurd (cc (least.1, none))
     | inr other ↦ other
@@ -131,10 +131,10 @@ module _ {O A : Type 0} (object : Sequential O) where
 
   -- a call at another place is another call
   not_same : (order : List (Call A)) (index : BTreeMap ℕ (Vec ℕ A)) (c d : Call A) (at q : ℕ) → IsIndexOf order (length order) index
-      → Some at ≡ place_in order d → (q ≡ at → ⊥) → StandsAt order q c → is_same c d ≡ false
+      → Some at ≡ place_in order d → (q ≡ at → ⊥) → IsCallAt order q c → is_same c d ≡ false
   not_same order index c d at q is_index is apart there = elim (cases_Bool (is_same c d)) as (λ _. is_same c d ≡ false) [
     | inl same ↦
-        let stands : StandsAt order q d = there ∙ ap Some (sym (is_same-true c d same)) in
+        let stands : IsCallAt order q d = there ∙ ap Some (sym (is_same-true c d same)) in
         absurd (apart (index-once order index q at d is_index stands (place_in-stands order d at (sym is))))
     | inr other ↦ other
   ]
@@ -168,7 +168,7 @@ module _ {O A : Type 0} (object : Sequential O) where
           | inr apart ↦ position-fails (is_issue_of c) past (Issue d) (not_same order index c d at q is_index is apart there)
         ] in
         are.each q c within there
-        ∙ ap (λ o. Some (place_by o (call_reply object order q))) (sym first);
+        ∙ ap (λ o. Some (place_near_or_indexed o (call_reply object order q))) (sym first);
   }
 
   -- otherwise it is its first issue
@@ -192,11 +192,11 @@ module _ {O A : Type 0} (object : Sequential O) where
               let first : first_issue (past ++ Issue d ∷ []) c ≡ Some (length past) = position-new (is_issue_of c) past (Issue d) none passes in
               let reply : place.reply ≡ call_reply object order q = ap (λ (w : OrderPlace). w.reply) was ∙ ap (call_reply object order) (sym same) in
               ap (slice_get (slice_set places at marked)) same ∙ get-set places at marked (slice_get_within places at place here)
-              ∙ ap (λ w. Some (place_by (Some (length past)) w)) reply
-              ∙ ap (λ o. Some (place_by o (call_reply object order q))) (sym first)
+              ∙ ap (λ w. Some (place_near_or_indexed (Some (length past)) w)) reply
+              ∙ ap (λ o. Some (place_near_or_indexed o (call_reply object order q))) (sym first)
           | inr apart ↦
               let first = position-fails (is_issue_of c) past (Issue d) (not_same order index c d at q is_index is apart there) in
               get-set_other places at q marked apart ∙ are.each q c within there
-              ∙ ap (λ o. Some (place_by o (call_reply object order q))) (sym first)
+              ∙ ap (λ o. Some (place_near_or_indexed o (call_reply object order q))) (sym first)
         ];
   }

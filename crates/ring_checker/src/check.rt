@@ -8,10 +8,10 @@ ghost use Rattle.ring_node_spec.specs.declared.item.Item.{Item as OneItem};
 ghost use Rattle.ring_node_spec.specs.declared.item.Item.TheVariants.{Issue};
 ghost use Rattle.ring_session.specs.Deduplicated.{IsNumbered};
 ghost use Rattle.ring_checker.specs.Checks.{IsIndexOf, ArePlaces, IsIssuedBefore, AreIssuedBefore, IsIssuedFront};
-ghost use Rattle.ring_checker.specs.Checks.{IsRightAt, IsRightReply, IsRightItem, AreRight};
+ghost use Rattle.ring_checker.specs.Checks.{IsReplyAtPlace, IsRightReply, IsRightItem, AreRepliesRight};
 ghost use Rattle.ring_node_spec.specs.Histories.{IsLinearization};
 
-use crate::index::{Index, index_of, place_near};
+use crate::index::{OrderIndex, order_index_of, place_in_order_near};
 use ring_base::Fault;
 use ring_node_spec::Item;
 use ring_object::{Object, Reply};
@@ -49,8 +49,8 @@ pub fn is_linearization<O: Object>(
     ensures ok { IfOk result (λ explains. IsTrue explains ↔ IsLinearization O.sequential order.now history.now) }
     ensures refused { IfErr result (λ fault. fault ≡ Memory) }
 {
-    match index_of(alloc, order) {
-        Ok(Some(index)) => explains::<O>(alloc, order, &index, history),
+    match order_index_of(alloc, order) {
+        Ok(Some(index)) => is_linearization_of_numbered::<O>(alloc, order, &index, history),
         Ok(None) => Ok(false),
         Err(fault) => Err(fault),
     }
@@ -59,10 +59,10 @@ pub fn is_linearization<O: Object>(
 /// Returns whether the order, whose calls are numbered, is a linearization of the history.
 ///
 /// Errors: `Memory` if an allocation fails.
-fn explains<O: Object>(
+fn is_linearization_of_numbered<O: Object>(
     alloc: O::Alloc,
     order: &[Call<O::Alloc>],
-    index: &Index<O::Alloc>,
+    index: &OrderIndex<O::Alloc>,
     history: &[Item<O::Alloc>],
 ) -> Result<bool, Fault>
     requires numbered { IsNumbered order.now }
@@ -71,15 +71,20 @@ fn explains<O: Object>(
     ensures refused { IfErr result (λ fault. fault ≡ Memory) }
 {
     match unissued_places::<O>(alloc, order) {
-        Ok(mut places) => Ok(explains_at::<O>(order, index, history, places.as_mut_slice())),
+        Ok(mut places) => Ok(is_linearization_by_places::<O>(
+            order,
+            index,
+            history,
+            places.as_mut_slice(),
+        )),
         Err(fault) => Err(fault),
     }
 }
 
 /// Returns whether the order is a linearization of the history, given its places, in which no call is issued yet.
-fn explains_at<O: Object>(
+fn is_linearization_by_places<O: Object>(
     order: &[Call<O::Alloc>],
-    index: &Index<O::Alloc>,
+    index: &OrderIndex<O::Alloc>,
     history: &[Item<O::Alloc>],
     places: &mut [OrderPlace],
 ) -> bool
@@ -92,7 +97,7 @@ fn explains_at<O: Object>(
     if !are_issued_before(places, history.len()) {
         return false;
     }
-    are_right(order, index, places, history)
+    are_replies_right(order, index, places, history)
 }
 
 // ---- places
@@ -126,7 +131,7 @@ fn places_from<O: Object>(
     ensures refused { IfErr result (λ fault. fault ≡ Memory) }
 {
     let mut places = Vec::with_capacity(alloc, order.len())?;
-    match add_places(object, order, &mut places) {
+    match append_order_places(object, order, &mut places) {
         Ok(()) => Ok(places),
         Err(fault) => Err(fault),
     }
@@ -135,7 +140,7 @@ fn places_from<O: Object>(
 /// Applies the calls to an object in its start state, and appends the place of each.
 ///
 /// Errors: `Memory` if an allocation fails.
-fn add_places<O: Object>(
+fn append_order_places<O: Object>(
     object: &mut O,
     order: &[Call<O::Alloc>],
     places: &mut Vec<OrderPlace, O::Alloc>,
@@ -158,7 +163,7 @@ fn add_places<O: Object>(
 /// Records for each place the index in the history of its call's first issue.
 fn note_issues<O: Object>(
     order: &[Call<O::Alloc>],
-    index: &Index<O::Alloc>,
+    index: &OrderIndex<O::Alloc>,
     history: &[Item<O::Alloc>],
     places: &mut [OrderPlace],
 )
@@ -175,7 +180,7 @@ fn note_issues<O: Object>(
 /// Records the item at index `k` of the history, if it is the first issue of a call.
 fn note_issue<O: Object>(
     order: &[Call<O::Alloc>],
-    index: &Index<O::Alloc>,
+    index: &OrderIndex<O::Alloc>,
     next: &mut usize,
     k: usize,
     item: &Item<O::Alloc>,
@@ -188,15 +193,15 @@ fn note_issue<O: Object>(
         → ArePlaces O.sequential order.now (past ++ item.now ∷ []) (length order.now) places.new }
 {
     match item {
-        Item::Issue(call) => note_call::<O>(order, index, next, k, call, places),
+        Item::Issue(call) => note_first_issue::<O>(order, index, next, k, call, places),
         Item::Reply(_, _) => {}
     }
 }
 
 /// Records at the call's place that it was issued at index `k` of the history, unless it was issued before.
-fn note_call<O: Object>(
+fn note_first_issue<O: Object>(
     order: &[Call<O::Alloc>],
-    index: &Index<O::Alloc>,
+    index: &OrderIndex<O::Alloc>,
     next: &mut usize,
     k: usize,
     call: &Call<O::Alloc>,
@@ -208,7 +213,7 @@ fn note_call<O: Object>(
         → ArePlaces O.sequential order.now past (length order.now) places.old
         → ArePlaces O.sequential order.now (past ++ Issue call.now ∷ []) (length order.now) places.new }
 {
-    let Some(at) = place_near(order, index, next, call) else {
+    let Some(at) = place_in_order_near(order, index, next, call) else {
         return;
     };
     let OrderPlace { issued, reply } = places[at];
@@ -224,20 +229,20 @@ fn note_call<O: Object>(
 // ---- replies
 
 /// Returns whether each reply of the history is right.
-fn are_right<A: Allocator + Copy>(
+fn are_replies_right<A: Allocator + Copy>(
     order: &[Call<A>],
-    index: &Index<A>,
+    index: &OrderIndex<A>,
     places: &[OrderPlace],
     history: &[Item<A>],
 ) -> bool
     requires { IsIndexOf order.now (length order.now) index.now }
-    ensures { IsTrue result ↔ AreRight order.now places.now history.now }
+    ensures { IsTrue result ↔ AreRepliesRight order.now places.now history.now }
 {
     let mut front = 0;
     let mut next = 0;
     for (k, item) in history.iter().enumerate() {
         front = issued_prefix_len(places, front, k);
-        if !is_right(order, index, &mut next, &places[..front], item) {
+        if !is_item_right(order, index, &mut next, &places[..front], item) {
             return false;
         }
     }
@@ -260,9 +265,9 @@ fn issued_prefix_len(places: &[OrderPlace], from: usize, k: usize) -> usize
 }
 
 /// Returns whether the item is right, if exactly the calls of the places `issued` were issued before it.
-fn is_right<A: Allocator + Copy>(
+fn is_item_right<A: Allocator + Copy>(
     order: &[Call<A>],
-    index: &Index<A>,
+    index: &OrderIndex<A>,
     next: &mut usize,
     issued: &[OrderPlace],
     item: &Item<A>,
@@ -279,7 +284,7 @@ fn is_right<A: Allocator + Copy>(
 /// Returns whether the call's place is one of `issued`, and `reply` is the object's reply there.
 fn is_right_reply<A: Allocator + Copy>(
     order: &[Call<A>],
-    index: &Index<A>,
+    index: &OrderIndex<A>,
     next: &mut usize,
     issued: &[OrderPlace],
     call: &Call<A>,
@@ -288,15 +293,15 @@ fn is_right_reply<A: Allocator + Copy>(
     requires { IsIndexOf order.now (length order.now) index.now }
     ensures { IsTrue result ↔ IsRightReply order.now issued.now call.now reply.now }
 {
-    match place_near(order, index, next, call) {
-        Some(at) => is_right_at(issued, at, reply),
+    match place_in_order_near(order, index, next, call) {
+        Some(at) => is_reply_at_place(issued, at, reply),
         None => false,
     }
 }
 
 /// Returns whether place `at` is one of `issued`, and `reply` is the object's reply there.
-fn is_right_at(issued: &[OrderPlace], at: usize, reply: &Reply) -> bool
-    ensures { IsTrue result ↔ IsRightAt issued.now at reply.now }
+fn is_reply_at_place(issued: &[OrderPlace], at: usize, reply: &Reply) -> bool
+    ensures { IsTrue result ↔ IsReplyAtPlace issued.now at reply.now }
 {
     match issued.get(at) {
         Some(place) => place.reply.as_slice() == reply.as_slice(),

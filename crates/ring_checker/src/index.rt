@@ -6,9 +6,9 @@ ghost use Rattle.std.specs.Prelude.{◌≡◌, ℕ, ◌+◌, ◌∷◌, [], ◌+
 ghost use Rattle.std.specs.BTreeMap.{get};
 ghost use Rattle.std.specs.Ordering.{nat_cmp};
 ghost use Rattle.ring_base.specs.declared.fault.Fault.TheVariants.{Memory};
-ghost use Rattle.ring_session.specs.Deduplicated.{StandsAt, IsNumbered};
+ghost use Rattle.ring_session.specs.Deduplicated.{IsCallAt, IsNumbered};
 ghost use Rattle.ring_session.specs.SessionAnswer.{is_same};
-ghost use Rattle.ring_checker.specs.Checks.{place_in, place_at, by_number, places_of, AddsPlace, IsIndexOf};
+ghost use Rattle.ring_checker.specs.Checks.{place_in, place_at, place_by_call_number, places_of, AddsPlace, IsIndexOf};
 
 use ring_base::Fault;
 use ring_payload::Call;
@@ -18,23 +18,23 @@ use std::collections::BTreeMap;
 /// The index of an order: for each client, the places of its calls 1, 2, .. in the order, counted from 0.
 ///
 /// Rules: Sessions 10
-pub type Index<A: Allocator> = BTreeMap<u32, Vec<usize, A>, A>;
+pub type OrderIndex<A: Allocator> = BTreeMap<u32, Vec<usize, A>, A>;
 
 /// Returns the index of an order, or `None` if some client's calls aren't numbered 1, 2, .. in it.
 ///
 /// Errors: `Memory` if an allocation fails.
 ///
 /// Rules: Sessions 10
-pub fn index_of<A: Allocator + Copy + Drop>(
+pub fn order_index_of<A: Allocator + Copy + Drop>(
     alloc: A,
     order: &[Call<A>],
-) -> Result<Option<Index<A>>, Fault>
+) -> Result<Option<OrderIndex<A>>, Fault>
     ensures numbered { IfOk result (λ index. IsSome index ↔ IsNumbered order.now) }
     ensures ok { IfOk result (λ index. IfSome index (IsIndexOf order.now (length order.now))) }
     ensures refused { IfErr result (λ fault. fault ≡ Memory) }
 {
     let mut index = BTreeMap::new(alloc);
-    match add_places(alloc, &mut index, order) {
+    match index_all_places(alloc, &mut index, order) {
         Ok(true) => Ok(Some(index)),
         Ok(false) => Ok(None),
         Err(fault) => Err(fault),
@@ -46,9 +46,9 @@ pub fn index_of<A: Allocator + Copy + Drop>(
 /// Returns false if some client's calls aren't numbered 1, 2 and so on.
 ///
 /// Errors: `Memory` if an allocation fails.
-fn add_places<A: Allocator + Copy + Drop>(
+fn index_all_places<A: Allocator + Copy + Drop>(
     alloc: A,
-    index: &mut Index<A>,
+    index: &mut OrderIndex<A>,
     order: &[Call<A>],
 ) -> Result<bool, Fault>
     requires { index.old.entries ≡ [] }
@@ -57,7 +57,7 @@ fn add_places<A: Allocator + Copy + Drop>(
     ensures refused { IfErr result (λ fault. fault ≡ Memory) }
 {
     for (place, call) in order.iter().enumerate() {
-        let is_next = add_place(alloc, index, call.client, call.number, place)?;
+        let is_next = index_call(alloc, index, call.client, call.number, place)?;
         if !is_next {
             return Ok(false);
         }
@@ -70,9 +70,9 @@ fn add_places<A: Allocator + Copy + Drop>(
 /// Returns whether it is.
 ///
 /// Errors: `Memory` if an allocation fails.
-fn add_place<A: Allocator + Copy + Drop>(
+fn index_call<A: Allocator + Copy + Drop>(
     alloc: A,
-    index: &mut Index<A>,
+    index: &mut OrderIndex<A>,
     client: u32,
     number: u64,
     place: usize,
@@ -82,8 +82,8 @@ fn add_place<A: Allocator + Copy + Drop>(
     ensures refused { IfErr result (λ fault. fault ≡ Memory) }
 {
     match index.get_mut(&client) {
-        Some(row) => add_to(row, number, place),
-        None => add_row(alloc, index, client, number, place),
+        Some(row) => index_next_call(row, number, place),
+        None => index_first_call(alloc, index, client, number, place),
     }
 }
 
@@ -92,9 +92,9 @@ fn add_place<A: Allocator + Copy + Drop>(
 /// Returns whether it is.
 ///
 /// Errors: `Memory` if an allocation fails.
-fn add_row<A: Allocator + Copy + Drop>(
+fn index_first_call<A: Allocator + Copy + Drop>(
     alloc: A,
-    index: &mut Index<A>,
+    index: &mut OrderIndex<A>,
     client: u32,
     number: u64,
     place: usize,
@@ -118,7 +118,7 @@ fn add_row<A: Allocator + Copy + Drop>(
 /// Returns whether it is.
 ///
 /// Errors: `Memory` if an allocation fails.
-fn add_to<A: Allocator + Copy>(
+fn index_next_call<A: Allocator + Copy>(
     row: &mut Vec<usize, A>,
     number: u64,
     place: usize,
@@ -127,7 +127,7 @@ fn add_to<A: Allocator + Copy>(
     ensures adds { IfOk result (λ is_next. IsTrue is_next → row.new.items ≡ row.old.items ++ place ∷ []) }
     ensures refused { IfErr result (λ fault. fault ≡ Memory) }
 {
-    if !is_next(row.len() as u64, number) {
+    if !is_successor(row.len() as u64, number) {
         return Ok(false);
     }
     row.push(place)?;
@@ -135,7 +135,7 @@ fn add_to<A: Allocator + Copy>(
 }
 
 /// Returns whether `number` is `last + 1`.
-fn is_next(last: u64, number: u64) -> bool
+fn is_successor(last: u64, number: u64) -> bool
     ensures { IsTrue result ↔ (number ≡ last + 1) }
 {
     number > 0 && number - 1 == last
@@ -147,16 +147,16 @@ fn is_next(last: u64, number: u64) -> bool
 /// index, since calls mostly come in the order's own sequence. `index` must be the index of `order`.
 ///
 /// Rules: Sessions 10
-pub fn place_near<A: Allocator + Copy>(
+pub fn place_in_order_near<A: Allocator + Copy>(
     order: &[Call<A>],
-    index: &Index<A>,
+    index: &OrderIndex<A>,
     next: &mut usize,
     call: &Call<A>,
 ) -> Option<usize>
     requires { IsIndexOf order.now (length order.now) index.now }
     ensures { result ≡ place_in order.now call.now }
 {
-    let place = place_by(order, index, *next, call)?;
+    let place = place_near_or_indexed(order, index, *next, call)?;
     *next = place.saturating_add(1);
     Some(place)
 }
@@ -164,36 +164,36 @@ pub fn place_near<A: Allocator + Copy>(
 /// Returns the first place of the call in the order, if there is one.
 ///
 /// The place `next` is tried before the index.
-fn place_by<A: Allocator + Copy>(
+fn place_near_or_indexed<A: Allocator + Copy>(
     order: &[Call<A>],
-    index: &Index<A>,
+    index: &OrderIndex<A>,
     next: usize,
     call: &Call<A>,
 ) -> Option<usize>
     requires { IsIndexOf order.now (length order.now) index.now }
     ensures { result ≡ place_in order.now call.now }
 {
-    if is_at(order, next, call) {
+    if is_call_at(order, next, call) {
         Some(next)
     } else {
-        place_in(order, index, call)
+        place_by_index(order, index, call)
     }
 }
 
 /// Returns whether the call is at this place of the order.
-fn is_at<A: Allocator + Copy>(order: &[Call<A>], place: usize, call: &Call<A>) -> bool
-    ensures { IsTrue result → StandsAt order.now place call.now }
+fn is_call_at<A: Allocator + Copy>(order: &[Call<A>], place: usize, call: &Call<A>) -> bool
+    ensures { IsTrue result → IsCallAt order.now place call.now }
 {
     match order.get(place) {
-        Some(other) => is_same(call, other),
+        Some(other) => is_same_numbered_call(call, other),
         None => false,
     }
 }
 
 /// Returns the first place of the call in the order, if there is one.
-fn place_in<A: Allocator + Copy>(
+fn place_by_index<A: Allocator + Copy>(
     order: &[Call<A>],
-    index: &Index<A>,
+    index: &OrderIndex<A>,
     call: &Call<A>,
 ) -> Option<usize>
     requires { IsIndexOf order.now (length order.now) index.now }
@@ -202,7 +202,7 @@ fn place_in<A: Allocator + Copy>(
     let Some(place) = place_at(index, call.client, call.number) else {
         return None;
     };
-    if is_same(call, &order[place]) {
+    if is_same_numbered_call(call, &order[place]) {
         Some(place)
     } else {
         None
@@ -210,7 +210,7 @@ fn place_in<A: Allocator + Copy>(
 }
 
 /// Returns the place that the index has for the client's call `number`, if any.
-fn place_at<A: Allocator + Copy>(index: &Index<A>, client: u32, number: u64) -> Option<usize>
+fn place_at<A: Allocator + Copy>(index: &OrderIndex<A>, client: u32, number: u64) -> Option<usize>
     ensures { result ≡ place_at index.now (client, number) }
 {
     match index.get(&client) {
@@ -221,7 +221,7 @@ fn place_at<A: Allocator + Copy>(index: &Index<A>, client: u32, number: u64) -> 
 
 /// Returns the place of call `number`, given the places of a client's calls 1, 2 and so on.
 fn place_by_number<A: Allocator + Copy>(row: &Vec<usize, A>, number: u64) -> Option<usize>
-    ensures { result ≡ by_number row.now.items number }
+    ensures { result ≡ place_by_call_number row.now.items number }
 {
     if number == 0 {
         return None;
@@ -230,7 +230,7 @@ fn place_by_number<A: Allocator + Copy>(row: &Vec<usize, A>, number: u64) -> Opt
 }
 
 /// Returns whether two calls have the same client, number and operation.
-fn is_same<A: Allocator + Copy>(call: &Call<A>, other: &Call<A>) -> bool
+fn is_same_numbered_call<A: Allocator + Copy>(call: &Call<A>, other: &Call<A>) -> bool
     ensures { result ≡ is_same call.now other.now }
 {
     other.client == call.client

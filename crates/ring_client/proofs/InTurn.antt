@@ -5,7 +5,7 @@ use Rattle.std.proofs.Common.{length-set, drop-drop, drop-set-lt}
 use Rattle.std.proofs.lemmas.List.{take-set, take_more_set}
 use Rattle.std.proofs.lemmas.List.Elements.{All-push}
 use Rattle.ring_session.specs.declared.answer.Answer.{Answer}
-use Rattle.ring_client.specs.declared.asked.Asked.{Asked}
+use Rattle.ring_client.specs.declared.last_request.Asked.{Asked}
 use Rattle.ring_client.specs.Asking.{asked_after_poll, HasNoAnswer, HasAnswered}
 use Rattle.ring_client.specs.Outcomes.{HaveNoAnswer, HasAnswer}
 use Rattle.ring_base.proofs.ListPlaces.{get-set}

@@ -4,7 +4,7 @@ use Rattle.std.specs.Prelude.{IfErr}
 use Rattle.ring_base.specs.declared.fault.Fault.{Fault}
 use Rattle.ring_base.specs.declared.fault.Fault.TheVariants.{NoAnswer}
 use Rattle.ring_client.specs.Calling.{ClientOf, AreUnansweredTries, IsUnanswered, AskingRefused}
-use Rattle.ring_client.specs.declared.asked.Asked.{Asked}
+use Rattle.ring_client.specs.declared.last_request.Asked.{Asked}
 
 pub none_yet : {P : Type 0} (asked : P → Asked) (op : List ℕ) (old : ClientOf P) → AreUnansweredTries asked op 0 old old
 unfolding AreUnansweredTries

@@ -7,7 +7,7 @@ use Rattle.ring_base.specs.declared.fault.Fault.{Fault}
 use Rattle.ring_payload.specs.declared.call.Call.{Call}
 use Rattle.ring_session.specs.declared.answer.Answer.{Answer}
 use Rattle.ring_session.specs.declared.answer.Answer.TheVariants.{Done, Kept, Refused}
-use Rattle.ring_client.specs.declared.asked.Asked.{Asked}
+use Rattle.ring_client.specs.declared.last_request.Asked.{Asked}
 
 -- a call of this client and number with this operation was submitted, and not polled yet
 abbrev pub just_submitted : ℕ → ℕ → List ℕ → Asked
@@ -40,10 +40,10 @@ IsClientVisible (Kept reply) = ⊤
 IsClientVisible (Refused number) = (4 ≤ number) × (number ≤ 7)
 
 -- the answer, if a call can have it
-abbrev pub client_visible : Answer → Option Answer
-client_visible (Done reply) = Some (Done reply)
-client_visible (Kept reply) = Some (Kept reply)
-client_visible (Refused number) = if nat_le 4 number && nat_le number 7 then Some (Refused number) else None
+abbrev pub if_client_visible : Answer → Option Answer
+if_client_visible (Done reply) = Some (Done reply)
+if_client_visible (Kept reply) = Some (Kept reply)
+if_client_visible (Refused number) = if nat_le 4 number && nat_le number 7 then Some (Refused number) else None
 
 -- the call got no answer: its submit was refused, or `turns` polls gave none
 abbrev pub HasNoAnswer : Asked → ℕ → Asked → Type 0

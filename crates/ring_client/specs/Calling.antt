@@ -5,9 +5,9 @@ use Rattle.ring_payload.specs.Limits.{max_operation}
 use Rattle.ring_payload.specs.Operations.{OpFits}
 use Rattle.ring_base.specs.declared.fault.Fault.{Fault}
 use Rattle.ring_base.specs.declared.fault.Fault.TheVariants.{OpTooLong, Conflict, Stale, NumberGap, SessionsFull, Memory, NoAnswer}
-use Rattle.ring_session.specs.SessionAnswer.{refusal, reply_in}
+use Rattle.ring_session.specs.SessionAnswer.{refusal, decode_reply}
 use Rattle.ring_session.specs.declared.answer.Answer.{Answer}
-use Rattle.ring_client.specs.declared.asked.Asked.{Asked}
+use Rattle.ring_client.specs.declared.last_request.Asked.{Asked}
 use Rattle.ring_client.specs.Asking.{just_submitted}
 use Rattle.ring_client.specs.Outcomes.{HaveNoAnswer, HasAnswer, HasNoMemoryAfterSubmit}
 
@@ -33,7 +33,7 @@ module _ {P : Type 0} (asked : P → Asked) (old new : ClientOf P) (op : List �
 
   -- a port gave this reply: the call is closed, and the number rises
   abbrev pub IsReplied : List ℕ → Type 0
-  IsReplied reply = (answer : Answer) × (reply_in answer ≡ Some reply) × HasAnswer asked next_call old.turns old.ports new.ports answer
+  IsReplied reply = (answer : Answer) × (decode_reply answer ≡ Some reply) × HasAnswer asked next_call old.turns old.ports new.ports answer
       × (new ≡ record (old) { next = old.next + 1; open_call = None; ports = new.ports })
 
   -- a port answered with this refusal: the call is closed, and the number stays
@@ -87,8 +87,8 @@ AskingRefusedWithin {P = P} asked limit old new op fault = (tries : ℕ) × (bef
     × AreUnansweredTries asked op tries old before × AskingRefused asked before new op fault
 
 -- why `until_answered` gives no reply
-abbrev pub UntilRefused : {P : Type 0} → (P → Asked) → ℕ → ClientOf P → ClientOf P → List ℕ → Fault → Type 0
-UntilRefused asked limit old new op OpTooLong = IsReady old × (max_operation < length op) × (new ≡ old)
-UntilRefused asked limit old new op NoAnswer = ((IsSome old.open_call ⊎ (old.next ≡ 2 ^ 64)) × (new ≡ old))
+abbrev pub UntilAnsweredRefused : {P : Type 0} → (P → Asked) → ℕ → ClientOf P → ClientOf P → List ℕ → Fault → Type 0
+UntilAnsweredRefused asked limit old new op OpTooLong = IsReady old × (max_operation < length op) × (new ≡ old)
+UntilAnsweredRefused asked limit old new op NoAnswer = ((IsSome old.open_call ⊎ (old.next ≡ 2 ^ 64)) × (new ≡ old))
     ⊎ (IsReady old × OpFits op × AskingRefusedWithin asked limit old new op NoAnswer)
-UntilRefused asked limit old new op fault = IsReady old × OpFits op × AskingRefusedWithin asked limit old new op fault
+UntilAnsweredRefused asked limit old new op fault = IsReady old × OpFits op × AskingRefusedWithin asked limit old new op fault

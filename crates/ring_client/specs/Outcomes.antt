@@ -2,9 +2,9 @@
 -- Rules: Clients 4 and 5
 use Rattle.std.specs.Prelude.{◌≡◌, ℕ, ◌+◌, ◌<◌, ◌≤◌, List, All, length, take, drop, slice_get, Some}
 use Rattle.ring_session.specs.declared.answer.Answer.{Answer}
-use Rattle.ring_client.specs.declared.asked.Asked.{Asked}
-use Rattle.ring_client.specs.declared.submission.CallOutcome.{CallOutcome}
-use Rattle.ring_client.specs.declared.submission.CallOutcome.TheVariants.{TicketAnswer, Unanswered, NotSubmitted, NoMemoryAfterSubmit}
+use Rattle.ring_client.specs.declared.last_request.Asked.{Asked}
+use Rattle.ring_client.specs.declared.port_trials.CallOutcome.{CallOutcome}
+use Rattle.ring_client.specs.declared.port_trials.CallOutcome.TheVariants.{TicketAnswer, Unanswered, NotSubmitted, NoMemoryAfterSubmit}
 use Rattle.ring_client.specs.Asking.{IsClientVisible, HasNoAnswer, HasAnswered}
 
 -- a port's last request, the request of the call just submitted, the polls at each port, and the ports before and after

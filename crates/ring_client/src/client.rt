@@ -5,11 +5,11 @@
 ghost use Rattle.std.specs.Prelude.{◌≡◌, ℕ, ◌<◌, ◌^◌, nat_lt, List, Some, None, is_some, IfOk, IfErr, if◌then◌else◌};
 ghost use Rattle.ring_payload.specs.Operations.{OpFits};
 ghost use Rattle.ring_client.specs.Calling.{IsReady, IsReplied, AskingRefused, CallRefused, AgainRefused};
-ghost use Rattle.ring_client.specs.Calling.{IsRepliedWithin, AskingRefusedWithin, UntilRefused};
+ghost use Rattle.ring_client.specs.Calling.{IsRepliedWithin, AskingRefusedWithin, UntilAnsweredRefused};
 
-use crate::asked::Op;
+use crate::last_request::Op;
 use crate::port::Port;
-use crate::submission::{CallOutcome, PortRequest, reply_of, submit_in_order};
+use crate::port_trials::{CallOutcome, PortRequest, reply_or_refusal, submit_in_order};
 use ring_base::Fault;
 use ring_object::Reply;
 use ring_payload::MAX_OPERATION;
@@ -26,7 +26,7 @@ pub struct Client<P: Port> {
     alloc: P::Alloc,
     client: u32,
     /// The number of the last call that got a reply, or 0 if none did.
-    replied: u64,
+    last_replied_number: u64,
     /// The operation of the open call, or `None` if no call is open.
     open_call: Option<Op>,
     turns: u64,
@@ -39,9 +39,9 @@ impl<P: Port> Model for Client<P> {
 
     ghost Value = { ClientOf P };
 
-    ghost view = { λ c. record { client = c.client; next = c.replied + 1; open_call = c.open_call; turns = c.turns; ports = c.ports.items } };
+    ghost view = { λ c. record { client = c.client; next = c.last_replied_number + 1; open_call = c.open_call; turns = c.turns; ports = c.ports.items } };
 
-    ghost invariant = { λ c. IsSome c.open_call → c.replied < 2 ^ 64 - 1 };
+    ghost invariant = { λ c. IsSome c.open_call → c.last_replied_number < 2 ^ 64 - 1 };
 }
 
 impl<P: Port> Client<P> {
@@ -58,7 +58,7 @@ impl<P: Port> Client<P> {
         Client {
             alloc,
             client,
-            replied: 0,
+            last_replied_number: 0,
             open_call: None,
             turns,
             ports,
@@ -80,10 +80,10 @@ impl<P: Port> Client<P> {
     /// Rules: Clients 3 to 5 and 7
     pub fn call(&mut self, op: &[u8]) -> Result<Reply, Fault>
         ensures ready { IfOk result (λ _. IsReady self.old × OpFits op.now) }
-        ensures replied { IfOk result (IsReplied P.asked_of self.old self.new op.now) }
-        ensures refused { IfErr result (CallRefused P.asked_of self.old self.new op.now) }
+        ensures replied { IfOk result (IsReplied P.trace_options_of self.old self.new op.now) }
+        ensures refused { IfErr result (CallRefused P.trace_options_of self.old self.new op.now) }
     {
-        if self.open_call.is_some() || self.replied == u64::MAX {
+        if self.open_call.is_some() || self.last_replied_number == u64::MAX {
             return Err(Fault::NoAnswer);
         }
         if op.len() > MAX_OPERATION {
@@ -103,8 +103,8 @@ impl<P: Port> Client<P> {
     ///
     /// Rules: Clients 5 and 6
     pub fn again(&mut self) -> Result<Reply, Fault>
-        ensures replied { IfOk result (λ reply. (op : List ℕ) × (self.old.open_call ≡ Some op) × IsReplied P.asked_of self.old self.new op reply) }
-        ensures refused { IfErr result (AgainRefused P.asked_of self.old self.new) }
+        ensures replied { IfOk result (λ reply. (op : List ℕ) × (self.old.open_call ≡ Some op) × IsReplied P.trace_options_of self.old self.new op reply) }
+        ensures refused { IfErr result (AgainRefused P.trace_options_of self.old self.new) }
     {
         let Some(op) = self.open_call else {
             return Err(Fault::NoAnswer);
@@ -123,10 +123,10 @@ impl<P: Port> Client<P> {
     /// Rules: Clients 6
     pub fn until_answered(&mut self, op: &[u8], limit: u64) -> Result<Reply, Fault>
         ensures ready { IfOk result (λ _. IsReady self.old × OpFits op.now) }
-        ensures replied { IfOk result (IsRepliedWithin P.asked_of limit self.old self.new op.now) }
-        ensures refused { IfErr result (UntilRefused P.asked_of limit self.old self.new op.now) }
+        ensures replied { IfOk result (IsRepliedWithin P.trace_options_of limit self.old self.new op.now) }
+        ensures refused { IfErr result (UntilAnsweredRefused P.trace_options_of limit self.old self.new op.now) }
     {
-        if self.is_open() || self.replied == u64::MAX {
+        if self.is_open() || self.last_replied_number == u64::MAX {
             return Err(Fault::NoAnswer);
         }
         if op.len() > MAX_OPERATION {
@@ -150,7 +150,7 @@ impl<P: Port> Client<P> {
     pub fn next_number(&self) -> Option<u64>
         ensures { result ≡ (if nat_lt self.now.next (2 ^ 64) then Some self.now.next else None) }
     {
-        self.replied.checked_add(1)
+        self.last_replied_number.checked_add(1)
     }
 
     /// Returns whether a call is open, which means that the last call was tried and no port has answered it.
@@ -180,8 +180,8 @@ impl<P: Port> Client<P> {
     /// Tries the call at the ports, and again up to `limit` times while no port answers.
     fn retry_ports(&mut self, op: Op, limit: u64) -> Result<Reply, Fault>
         requires { self.old.next < 2 ^ 64 }
-        ensures replied { IfOk result (IsRepliedWithin P.asked_of limit self.old self.new op) }
-        ensures refused { IfErr result (AskingRefusedWithin P.asked_of limit self.old self.new op) }
+        ensures replied { IfOk result (IsRepliedWithin P.trace_options_of limit self.old self.new op) }
+        ensures refused { IfErr result (AskingRefusedWithin P.trace_options_of limit self.old self.new op) }
     {
         for _ in 0..limit {
             match self.try_ports(op) {
@@ -195,19 +195,19 @@ impl<P: Port> Client<P> {
     /// Tries the call with the next number and this operation at the ports.
     fn try_ports(&mut self, op: Op) -> Result<Reply, Fault>
         requires { self.old.next < 2 ^ 64 }
-        ensures replied { IfOk result (IsReplied P.asked_of self.old self.new op) }
-        ensures refused { IfErr result (AskingRefused P.asked_of self.old self.new op) }
+        ensures replied { IfOk result (IsReplied P.trace_options_of self.old self.new op) }
+        ensures refused { IfErr result (AskingRefused P.trace_options_of self.old self.new op) }
     {
         let request = PortRequest {
             client: self.client,
-            number: self.replied + 1,
+            number: self.last_replied_number + 1,
             op,
         };
         match submit_in_order(self.ports.as_mut_slice(), self.alloc, &request, self.turns) {
             CallOutcome::TicketAnswer(answer) => {
                 self.open_call = None;
-                let reply = reply_of(answer)?;
-                self.replied += 1;
+                let reply = reply_or_refusal(answer)?;
+                self.last_replied_number += 1;
                 Ok(reply)
             }
             CallOutcome::Unanswered => {

@@ -7,11 +7,11 @@
 //! Rules: Clients 1 to 7
 #![tactic(auto)]
 
-mod asked;
 mod client;
+mod last_request;
 mod port;
-mod submission;
+mod port_trials;
 
-pub use asked::{Asked, Op};
 pub use client::Client;
-pub use port::{Port, client_visible};
+pub use last_request::{Asked, Op};
+pub use port::{Port, if_client_visible};

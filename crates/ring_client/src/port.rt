@@ -3,9 +3,9 @@
 //! Rules: Clients 2
 
 ghost use Rattle.std.specs.Prelude.{◌≡◌, IfSome, IfErr, OnOk};
-ghost use Rattle.ring_client.specs.Asking.{asked_after_submit, asked_after_refusal, asked_after_poll, client_visible, IsClientVisible};
+ghost use Rattle.ring_client.specs.Asking.{asked_after_submit, asked_after_refusal, asked_after_poll, if_client_visible, IsClientVisible};
 
-use crate::asked::Asked;
+use crate::last_request::Asked;
 use ring_base::Fault;
 use ring_payload::Call;
 use ring_session::Answer;
@@ -18,7 +18,7 @@ use std::alloc::Allocator;
 ///
 /// Rules: Clients 2
 pub trait Port: Drop {
-    ghost use Rattle.ring_client.specs.declared.asked.Asked.{Asked};
+    ghost use Rattle.ring_client.specs.declared.last_request.Asked.{Asked};
 
     /// The allocator of the calls.
     type Alloc: Allocator + Copy + Drop;
@@ -27,7 +27,7 @@ pub trait Port: Drop {
     type Ticket: Drop;
 
     /// The last request at the port.
-    ghost asked_of: { Self → Asked };
+    ghost trace_options_of: { Self → Asked };
 
     /// Submits a call and returns the ticket to poll.
     ///
@@ -39,8 +39,8 @@ pub trait Port: Drop {
     ///
     /// Rules: Clients 2 and 4
     fn submit(&mut self, call: &Call<Self::Alloc>) -> Result<Self::Ticket, Fault>
-        ensures ok { OnOk result (asked_of self.new ≡ asked_after_submit call.now) }
-        ensures refused { IfErr result (λ fault. asked_of self.new ≡ asked_after_refusal fault (asked_after_submit call.now)) };
+        ensures ok { OnOk result (trace_options_of self.new ≡ asked_after_submit call.now) }
+        ensures refused { IfErr result (λ fault. trace_options_of self.new ≡ asked_after_refusal fault (asked_after_submit call.now)) };
 
     /// Returns the answer to the ticket's call, or `None` if it hasn't arrived.
     ///
@@ -48,7 +48,7 @@ pub trait Port: Drop {
     ///
     /// Rules: Clients 2
     fn poll(&mut self, ticket: &Self::Ticket) -> Option<Answer>
-        ensures asked { asked_of self.new ≡ asked_after_poll result (asked_of self.old) }
+        ensures asked { trace_options_of self.new ≡ asked_after_poll result (trace_options_of self.old) }
         ensures told { IfSome result IsClientVisible };
 
     /// Returns the last request: the last submit's call, its refusal, the number of polls since, and the last poll's
@@ -56,7 +56,7 @@ pub trait Port: Drop {
     ///
     /// Rules: Clients 2
     fn asked(&self) -> &Asked
-        ensures { result.now ≡ asked_of self.now };
+        ensures { result.now ≡ trace_options_of self.now };
 }
 
 /// Returns the answer if a client may see it, otherwise `None`.
@@ -65,8 +65,8 @@ pub trait Port: Drop {
 /// polls a node uses this function to prove it.
 ///
 /// Rules: Clients 2; Sessions 3
-pub fn client_visible(answer: Answer) -> Option<Answer>
-    ensures value { result ≡ client_visible answer }
+pub fn if_client_visible(answer: Answer) -> Option<Answer>
+    ensures value { result ≡ if_client_visible answer }
     ensures told { IfSome result IsClientVisible }
 {
     match answer {

@@ -141,7 +141,7 @@ fn without_memory<W: Threads + Wait + Sync>(
     let callers = clients(alloc, &[1])?;
     let heap = RefusingHeap::new(alloc, 0);
     let seen = run_of(rt, &heap, 3, stopped, callers.as_slice())?;
-    Ok((seen, heap.requests() > 0))
+    Ok((seen, heap.request_count() > 0))
 }
 
 #[test]

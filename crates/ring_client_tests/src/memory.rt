@@ -87,7 +87,7 @@ fn requests(alloc: Global) -> (u64, Result<Reply, Fault>) {
     let ample = RefusingHeap::new(alloc, u64::MAX);
     let heap = RefusingHeap::new(alloc, u64::MAX);
     let answer = answered(&heap, &ample);
-    (heap.requests(), answer)
+    (heap.request_count(), answer)
 }
 
 /// Each port's call takes memory.

@@ -8,7 +8,7 @@ ghost use Rattle.ring_host_port.specs.Clients.{AreForAll};
 
 use ring_base::Fault;
 use ring_client::{Client, Port};
-use ring_host_port::{BookName, Host, Seat, client_of};
+use ring_host_port::{BookName, Host, Seat, client_with_ports};
 use ring_object::Object;
 use std::sync::Wait;
 
@@ -49,7 +49,7 @@ pub trait Caller {
 /// Errors: `Memory` if an allocation for the ports fails; no call has then been made.
 ///
 /// Rules: The book and the threads 28
-pub(crate) fn call_from<O: Object, K: BookName<O::Alloc>, C: Caller, W: Wait>(
+pub(crate) fn make_calls_of_client<O: Object, K: BookName<O::Alloc>, C: Caller, W: Wait>(
     rt: &W,
     alloc: O::Alloc,
     host: &Host<O, K>,
@@ -61,7 +61,7 @@ pub(crate) fn call_from<O: Object, K: BookName<O::Alloc>, C: Caller, W: Wait>(
     ensures refused { IfErr result (λ fault. fault ≡ Memory) }
 {
     let first = caller.first_node();
-    let mut client = client_of(rt, alloc, host, seats, number, first)?;
+    let mut client = client_with_ports(rt, alloc, host, seats, number, first)?;
     caller.make_calls(&mut client);
     Ok(())
 }

@@ -7,14 +7,14 @@
 #![tactic(auto)]
 
 mod caller;
-mod checking;
+mod run_arguments;
 mod running;
 mod running_clients;
 
 pub use caller::Caller;
-pub use checking::MAX_PORTS;
 pub use ring_host_port::{
     Book, BookName, ClientCalls, Gate, GatePlace, Gauge, Host, HostPort, HostTicket, OpenGate,
     Opening, PacedGate, Seat, Turn, TurnActivity,
 };
+pub use run_arguments::MAX_PORTS_OF_RUN;
 pub use running::run_callers;

@@ -8,11 +8,13 @@ ghost use Rattle.ring_client_threads.specs.Arguments.{IsNode, AreOfGroup, MayRun
 ghost use Rattle.ring_client_threads.specs.Callers.{AreOfRun};
 ghost use Rattle.ring_host_port.specs.Clients.{AreSeats, AreForAll};
 
-use crate::caller::{Caller, call_from};
-use crate::checking::check_arguments;
+use crate::caller::{Caller, make_calls_of_client};
+use crate::run_arguments::check_arguments;
 use crate::running_clients::RunningClients;
 use ring_base::{Fault, Fixed, Proc};
-use ring_host_port::{BookName, ClientCalls, Gate, Host, Opening, Seat, calls_of, take_seats};
+use ring_host_port::{
+    BookName, ClientCalls, Gate, Host, Opening, Seat, client_calls_of, take_seats,
+};
 use ring_object::Object;
 use std::marker::Brand;
 use std::sync::Wait;
@@ -50,7 +52,7 @@ where
 {
     check_arguments(group, stopped, callers)?;
     let opening = Opening::<O>::new(alloc, group)?;
-    run_named::<O, Brand, C, W>(rt, alloc, opening, group.count(), stopped, callers)
+    run_at_opening::<O, Brand, C, W>(rt, alloc, opening, group.count(), stopped, callers)
 }
 
 /// Runs the nodes and callers at the opening that `K` names.
@@ -58,7 +60,7 @@ where
 /// The arguments must have been checked.
 ///
 /// Errors: only `Memory`, if an allocation fails or a thread can't be started.
-fn run_named<
+fn run_at_opening<
     O: Object + Send,
     K: BookName<O::Alloc> + Send + Sync,
     C: Caller + Sync,
@@ -81,16 +83,16 @@ where
 {
     let ports = callers.len() * usize::from(nodes);
     let (host, seats) = Host::<O, K>::new(alloc, opening, ports as u16)?;
-    stop_all(rt, &host, stopped)?;
+    stop_named_nodes(rt, &host, stopped)?;
     let gate = host.paced_gate(rt)?;
-    run_all(rt, alloc, &host, &gate, seats, nodes, callers)?;
-    calls_of(rt, &host)
+    run_nodes_and_callers(rt, alloc, &host, &gate, seats, nodes, callers)?;
+    client_calls_of(rt, &host)
 }
 
 /// Stops the nodes with these numbers, of a new host.
 ///
 /// None of them has stopped, and no place of the book is used. So a stop can be refused only with `Memory`.
-fn stop_all<O: Object, K: BookName<O::Alloc>, W: Wait>(
+fn stop_named_nodes<O: Object, K: BookName<O::Alloc>, W: Wait>(
     rt: &W,
     host: &Host<O, K>,
     stopped: &[u8],
@@ -113,7 +115,7 @@ fn stop_all<O: Object, K: BookName<O::Alloc>, W: Wait>(
 ///
 /// Errors: `Memory` if a thread or a client can't be started. Nodes are then stopped as far as memory allows, and
 /// started threads end.
-fn run_all<
+fn run_nodes_and_callers<
     O: Object + Send,
     K: BookName<O::Alloc> + Send + Sync,
     C: Caller + Sync,
@@ -145,18 +147,18 @@ where
             let mut number = 0u32;
             for caller in callers {
                 number = number.saturating_add(1);
-                let own = take_seats(host, &mut seats, nodes);
+                let seats_of_client = take_seats(host, &mut seats, nodes);
                 let called = move ||
-                    requires { IfOk own (λ seats. AreForAll host.now seats.items) }
-                { call(rt, alloc, host, own, number, caller, remaining) };
+                    requires { IfOk seats_of_client (λ seats. AreForAll host.now seats.items) }
+                { run_caller(rt, alloc, host, seats_of_client, number, caller, remaining) };
                 if scope.spawn(called).is_err() {
-                    remaining.fail(rt, host);
+                    remaining.fail_and_stop_nodes(rt, host);
                     remaining.finish_client(host);
                 }
             }
             remaining.finish_client(host);
             if host.run(rt, seats.as_mut_slice(), gate).is_err() {
-                remaining.fail(rt, host);
+                remaining.fail_and_stop_nodes(rt, host);
             }
         },
     );
@@ -167,23 +169,23 @@ where
 }
 
 /// Makes the calls of client `number` if it has seats, and counts it as ended.
-fn call<O: Object, K: BookName<O::Alloc>, C: Caller, W: Wait>(
+fn run_caller<O: Object, K: BookName<O::Alloc>, C: Caller, W: Wait>(
     rt: &W,
     alloc: O::Alloc,
     host: &Host<O, K>,
-    own: Result<Vec<Seat<O::Alloc>, O::Alloc>, Fault>,
+    seats_of_client: Result<Vec<Seat<O::Alloc>, O::Alloc>, Fault>,
     number: u32,
     caller: &C,
     running: &RunningClients,
 )
-    requires { IfOk own (λ seats. AreForAll host.now seats.items) }
+    requires { IfOk seats_of_client (λ seats. AreForAll host.now seats.items) }
 {
-    let called = match own {
-        Ok(seats) => call_from(rt, alloc, host, seats, number, caller),
+    let called = match seats_of_client {
+        Ok(seats) => make_calls_of_client(rt, alloc, host, seats, number, caller),
         Err(fault) => Err(fault),
     };
     if called.is_err() {
-        running.fail(rt, host);
+        running.fail_and_stop_nodes(rt, host);
     }
     running.finish_client(host);
 }

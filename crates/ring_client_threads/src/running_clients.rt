@@ -38,7 +38,7 @@ impl RunningClients {
     /// Records that a thread or a client couldn't be started, and closes the host.
     ///
     /// First stops all nodes, as far as memory allows, so that clients don't try their calls for long.
-    pub(crate) fn fail<O: Object, K: BookName<O::Alloc>, W: Wait>(
+    pub(crate) fn fail_and_stop_nodes<O: Object, K: BookName<O::Alloc>, W: Wait>(
         &self,
         rt: &W,
         host: &Host<O, K>,
@@ -53,7 +53,7 @@ impl RunningClients {
         host.close();
     }
 
-    /// Returns whether `fail` was called, because a thread or a client couldn't be started.
+    /// Returns whether `fail_and_stop_nodes` was called, because a thread or a client couldn't be started.
     pub(crate) fn has_failed(&self) -> bool {
         self.has_failed.load(Ordering::SeqCst)
     }

@@ -1,6 +1,6 @@
 -- A clock that noted a step.
 use Rattle.std.proofs.Common.{◌≡◌, ◌∙◌, Bool, List, Option, ap}
-use Rattle.ring_base.specs.declared.kind.Kind.{Kind}
+use Rattle.ring_base.specs.declared.timeout_kind.Kind.{Kind}
 use Rattle.ring_core_spec.specs.State.{OutgoingFrame}
 use Rattle.ring_node_spec.specs.declared.input.Input.{Input}
 use Rattle.ring_timers.specs.declared.step_outcome.StepOutcome.{StepOutcome}

@@ -2,7 +2,7 @@
 -- Rules: A node with a clock 9
 use Rattle.std.specs.Prelude.{ℕ, Option, Some, None}
 use Rattle.std.specs.Option.{option_map}
-use Rattle.ring_base.specs.declared.kind.Kind.{Kind}
+use Rattle.ring_base.specs.declared.timeout_kind.Kind.{Kind}
 use Rattle.ring_timers.specs.declared.periods.Periods.{Periods}
 use Rattle.ring_timers.specs.declared.step_outcome.StepOutcome.{StepOutcome}
 use Rattle.ring_timers.specs.Timers.{TimersView, timers_opened, first_due, next_time}

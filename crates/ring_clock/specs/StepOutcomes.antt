@@ -3,7 +3,7 @@
 use Rattle.std.specs.Prelude.{Bool, true, false, ◌&&◌, not, List, [], ◌∷◌, Option, Some, None}
 use Rattle.std.specs.List.{list_any}
 use Rattle.ring_base.specs.Rings.{same_ring}
-use Rattle.ring_base.specs.declared.kind.Kind.{Kind}
+use Rattle.ring_base.specs.declared.timeout_kind.Kind.{Kind}
 use Rattle.ring_wire.specs.declared.frame.Frame.{Frame as OneFrame}
 use Rattle.ring_wire.specs.declared.frame.Frame.TheVariants.{Message, Token, Join, Commit}
 use Rattle.ring_core_spec.specs.State.{Core, OutgoingFrame}
@@ -29,9 +29,9 @@ is_token (Timeout kind) = false
 is_token Stop = false
 
 -- whether anything was sent: something is at a token that is taken
-abbrev pub has_sent : {A : Type 0} → List (OutgoingFrame A) → Bool
-has_sent [] = false
-has_sent (s ∷ sends) = true
+abbrev pub has_sent_frame : {A : Type 0} → List (OutgoingFrame A) → Bool
+has_sent_frame [] = false
+has_sent_frame (s ∷ sends) = true
 
 -- whether the frame is a join
 abbrev pub is_join_frame : {A : Type 0} → OneFrame A → Bool
@@ -46,7 +46,7 @@ is_join s = is_join_frame s.frame
 
 -- the outcome, from the timeout that the input was, whether it was a token, and the frames sent
 abbrev pub outcome_from : {A : Type 0} → Option Kind → Bool → List (OutgoingFrame A) → StepOutcome
-outcome_from timeout token sends = record { timeout = timeout; took_token = token && has_sent sends; sent_join = list_any is_join sends }
+outcome_from timeout token sends = record { timeout = timeout; took_token = token && has_sent_frame sends; sent_join = list_any is_join sends }
 
 -- the outcome of a step on this input that sent these frames
 abbrev pub outcome_of : {A : Type 0} → Input A → List (OutgoingFrame A) → StepOutcome

@@ -7,8 +7,8 @@
 #![tactic(auto)]
 
 mod node_clock;
-mod step_outcomes;
+mod step_outcome_of;
 
 pub use node_clock::NodeClock;
 pub use ring_timers::{Periods, StepOutcome, Timers};
-pub use step_outcomes::{has_sent, is_token, step_outcome, timeout_in};
+pub use step_outcome_of::{has_sent_frame, is_token, step_outcome, timeout_in};

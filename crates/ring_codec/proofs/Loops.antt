@@ -5,7 +5,7 @@ use Rattle.ring_base.specs.declared.fault.Fault.{Fault}
 use Rattle.ring_base.specs.declared.fault.Fault.TheVariants.{NotMember, PendingFull, OpTooLong, Conflict, Stale}
 use Rattle.ring_base.specs.declared.fault.Fault.TheVariants.{NumberGap, SessionsFull, Stopped, BookFull, Stranger}
 use Rattle.ring_base.specs.declared.fault.Fault.TheVariants.{Memory, BadFrame, BadScript, NoAnswer, BadSnapshot}
-use Rattle.ring_codec.specs.Reading.{◌>>=◌, IsReadRefusal, times_at}
+use Rattle.ring_codec.specs.Reading.{◌>>=◌, IsReadRefusal, repeated_at}
 
 -- the values read before, then those still to read
 abbrev pub with_front : {A : Type 0} → List A → Option (List A × List ℕ) → Option (List A × List ℕ)
@@ -18,12 +18,12 @@ regroup front n None = refl
 
 pub goes_on : {A : Type 0} (at : List ℕ → Option (A × List ℕ)) (front : List A) (count i : ℕ) (bytes : List ℕ) (n : A)
     (after : List ℕ) (total : Option (List A × List ℕ)) → i < count → at bytes ≡ Some (n, after)
-    → with_front front (times_at (count - i) at bytes) ≡ total → with_front (front ++ n ∷ []) (times_at (count - (i + 1)) at after) ≡ total
-unfolding times_at
+    → with_front front (repeated_at (count - i) at bytes) ≡ total → with_front (front ++ n ∷ []) (repeated_at (count - (i + 1)) at after) ≡ total
+unfolding repeated_at
 goes_on at front count i bytes n after total lt h so_far =
     let k : count - i ≡ suc (count - (i + 1)) = omega arith in
-    let one : with_front front (times_at (count - i) at bytes) ≡ with_front (front ++ n ∷ [])
-    (times_at (count - (i + 1)) at after) = rw (k, h) (regroup front n (times_at (count - (i + 1)) at after)) in
+    let one : with_front front (repeated_at (count - i) at bytes) ≡ with_front (front ++ n ∷ [])
+    (repeated_at (count - (i + 1)) at after) = rw (k, h) (regroup front n (repeated_at (count - (i + 1)) at after)) in
     sym one ∙ so_far
 
 -- a refusal carries over to any reading that gives nothing where this one does
@@ -46,17 +46,17 @@ IsReadRefusal-on BadSnapshot r s h f = h
 
 pub ends : {A : Type 0} (at : List ℕ → Option (A × List ℕ)) (e : Fault) (front : List A) (count i : ℕ)
     (bytes : List ℕ) (total : Option (List A × List ℕ)) → i < count → IsReadRefusal e (at bytes)
-    → with_front front (times_at (count - i) at bytes) ≡ total → IsReadRefusal e total
-unfolding times_at
+    → with_front front (repeated_at (count - i) at bytes) ≡ total → IsReadRefusal e total
+unfolding repeated_at
 ends at e front count i bytes total lt h so_far =
     let k : count - i ≡ suc (count - (i + 1)) = omega arith in
     IsReadRefusal-on e (at bytes) total h (λ none. sym so_far ∙ rw (k, none) refl)
 
 pub is_done : {A : Type 0} (at : List ℕ → Option (A × List ℕ)) (front : List A) (count i : ℕ) (bytes : List ℕ)
-    (total : Option (List A × List ℕ)) → count ≤ i → with_front front (times_at (count - i) at bytes) ≡ total
+    (total : Option (List A × List ℕ)) → count ≤ i → with_front front (repeated_at (count - i) at bytes) ≡ total
     → total ≡ Some (front, bytes)
-unfolding times_at
+unfolding repeated_at
 is_done {A} at front count i bytes total le so_far =
     let k : count - i ≡ 0 = omega arith in
-    let one : with_front front (times_at (count - i) at bytes) ≡ Some (front, bytes) = rw k (ap (λ (ns : List A). Some (ns, bytes)) (append-nil front)) in
+    let one : with_front front (repeated_at (count - i) at bytes) ≡ Some (front, bytes) = rw k (ap (λ (ns : List A). Some (ns, bytes)) (append-nil front)) in
     sym so_far ∙ one

@@ -7,7 +7,7 @@ use Rattle.std.proofs.lemmas.List.{length-append, length-drop, length-take, drop
 use Rattle.byteorder.specs.Endian.{big_number}
 use Rattle.byteorder.specs.Numbers.{big_from-append}
 use Rattle.ring_base.specs.declared.fault.Fault.{Fault}
-use Rattle.ring_codec.specs.Reading.{IsReadRefusal, number_at, text_at, times_at}
+use Rattle.ring_codec.specs.Reading.{IsReadRefusal, number_at, raw_bytes_at, repeated_at}
 use Rattle.ring_codec.specs.NumberFormats.{guard_some}
 use Rattle.ring_codec.specs.EncodedNumbers.{encoded_numbers}
 use Rattle.ring_codec.proofs.Loops.{IsReadRefusal-on}
@@ -17,8 +17,8 @@ unfolding encoded_numbers
 length-words zero bytes = refl
 length-words (suc n) bytes = ap suc (length-words n (drop 8 bytes))
 
-pub words_read : (n : ℕ) (text rest : List ℕ) → length text ≡ 8 * n → times_at n (number_at 8) (text ++ rest) ≡ Some (encoded_numbers n text, rest)
-unfolding encoded_numbers times_at
+pub words_read : (n : ℕ) (text rest : List ℕ) → length text ≡ 8 * n → repeated_at n (number_at 8) (text ++ rest) ≡ Some (encoded_numbers n text, rest)
+unfolding encoded_numbers repeated_at
 words_read zero text rest len = rw (nil_from_length text len) refl
 words_read (suc n) text rest len =
     let long : ltb (length (text ++ rest)) 8 ≡ false = le-ltb _ _ (omega (arith, length-append text rest)) in
@@ -27,8 +27,8 @@ words_read (suc n) text rest len =
     let others = words_read n (drop 8 text) rest (omega (arith, length-drop 8 text)) in
     rw (long, front, behind, others) refl
 
-pub words_short : (n : ℕ) (bytes : List ℕ) → length bytes < 8 * n → times_at n (number_at 8) bytes ≡ None
-unfolding times_at
+pub words_short : (n : ℕ) (bytes : List ℕ) → length bytes < 8 * n → repeated_at n (number_at 8) bytes ≡ None
+unfolding repeated_at
 words_short zero bytes short = absurd (omega arith)
 words_short (suc n) bytes short =
     elim (cases_lt (length bytes) 8) [
@@ -36,10 +36,10 @@ words_short (suc n) bytes short =
       | inr le ↦ rw (le-ltb _ _ le, words_short n (drop 8 bytes) (omega (arith, length-drop 8 bytes))) refl
     ]
 
-pub words_taken : (n : ℕ) (bytes : List ℕ) → 8 * n ≤ length bytes → times_at n (number_at 8) bytes ≡ Some (encoded_numbers n (take (8 * n) bytes), drop (8 * n) bytes)
+pub words_taken : (n : ℕ) (bytes : List ℕ) → 8 * n ≤ length bytes → repeated_at n (number_at 8) bytes ≡ Some (encoded_numbers n (take (8 * n) bytes), drop (8 * n) bytes)
 words_taken n bytes le =
     let parts = take-append-drop (8 * n) bytes in
-    ap (times_at n (number_at 8)) (sym parts) ∙ words_read n (take (8 * n) bytes) (drop (8 * n) bytes) (omega (arith, length-take (8 * n) bytes))
+    ap (repeated_at n (number_at 8)) (sym parts) ∙ words_read n (take (8 * n) bytes) (drop (8 * n) bytes) (omega (arith, length-take (8 * n) bytes))
 
 pub word_at : (n i : ℕ) (bytes : List ℕ) → i < n → slice_index (encoded_numbers n bytes) i ≡ big_number 8 (drop (8 * i) bytes)
 unfolding encoded_numbers
@@ -66,10 +66,10 @@ word_of n i bytes words are whole lt =
     ap (big_number 8) all ∙ sym (word_at n i bytes (omega (arith, count_words n bytes words are))) ∙ ap (λ (ws : List ℕ). slice_index ws i) are
 
 -- the numbers are in the bytes taken for them
-pub words_got : (n : ℕ) (bytes text rest : List ℕ) → text_at (8 * n) bytes ≡ Some (text, rest) → times_at n (number_at 8) bytes ≡ Some (encoded_numbers n text, rest)
+pub words_got : (n : ℕ) (bytes text rest : List ℕ) → raw_bytes_at (8 * n) bytes ≡ Some (text, rest) → repeated_at n (number_at 8) bytes ≡ Some (encoded_numbers n text, rest)
 words_got n bytes text rest got =
     let g = guard_some (ltb (length bytes) (8 * n)) (take (8 * n) bytes, drop (8 * n) bytes) (text, rest) got in
-    let P : List ℕ × List ℕ → Type 0 = λ x. times_at n (number_at 8) bytes ≡ Some (encoded_numbers n x.0, x.1) in
+    let P : List ℕ × List ℕ → Type 0 = λ x. repeated_at n (number_at 8) bytes ≡ Some (encoded_numbers n x.0, x.1) in
     subst P g.1 (words_taken n bytes (ltb-false _ _ g.0))
 
 none_where : (b : Bool) (x : List ℕ × List ℕ) → cond b None (Some x) ≡ None → b ≡ true
@@ -77,7 +77,7 @@ none_where true x e = refl
 none_where false x e = absurd cc
 
 -- if fewer bytes are left, fewer numbers are
-pub words_refused : (e : Fault) (n : ℕ) (bytes : List ℕ) → IsReadRefusal e (text_at (8 * n) bytes) → IsReadRefusal e (times_at n (number_at 8) bytes)
+pub words_refused : (e : Fault) (n : ℕ) (bytes : List ℕ) → IsReadRefusal e (raw_bytes_at (8 * n) bytes) → IsReadRefusal e (repeated_at n (number_at 8) bytes)
 words_refused e n bytes refused =
-    IsReadRefusal-on e (text_at (8 * n) bytes) (times_at n (number_at 8) bytes) refused
+    IsReadRefusal-on e (raw_bytes_at (8 * n) bytes) (repeated_at n (number_at 8) bytes) refused
     (λ none. words_short n bytes (ltb-true _ _ (none_where (ltb (length bytes) (8 * n)) (take (8 * n) bytes, drop (8 * n) bytes) none)))

@@ -1,8 +1,8 @@
-pub mod Base
-pub mod Cases
-pub mod Faults
+pub mod BaseReexports
+pub mod TaggedCases
+pub mod FaultReexports
 pub mod Formats
-pub mod Prefixes
+pub mod EncodedPrefixes
 pub mod NumberFormats
 pub mod Processors
 pub mod Reading

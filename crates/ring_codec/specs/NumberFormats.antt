@@ -27,19 +27,19 @@ guard_some true x y e = absurd cc
 guard_some false x y e = (refl, cc)
 
 -- n bytes are the encoding of the number that they stand for
-abbrev IsWide : ℕ → Type 0
-IsWide n = (bytes : List ℕ) → length bytes ≡ n → IsBytes bytes → big_bytes n (big_number n bytes) ≡ bytes
+abbrev IsWidthExact : ℕ → Type 0
+IsWidthExact n = (bytes : List ℕ) → length bytes ≡ n → IsBytes bytes → big_bytes n (big_number n bytes) ≡ bytes
 
-wide8 : IsWide 8
+wide8 : IsWidthExact 8
 wide8 bytes len fits = be_bytes_8 bytes _ len fits (omega arith)
 
-wide4 : IsWide 4
+wide4 : IsWidthExact 4
 wide4 bytes len fits = be_bytes_4 bytes _ len fits (omega arith)
 
-wide2 : IsWide 2
+wide2 : IsWidthExact 2
 wide2 bytes len fits = be_bytes_2 bytes _ len fits (omega arith)
 
-number_format : (n : ℕ) → IsWide n → IsFormat (λ v. big_bytes n v) (IsWord n) (number_at n)
+number_format : (n : ℕ) → IsWidthExact n → IsFormat (λ v. big_bytes n v) (IsWord n) (number_at n)
 number_format n wide = record {
   takes = λ bytes x fits e.
       let g = guard_some (ltb (length bytes) n) (big_number n bytes, drop n bytes) x e in

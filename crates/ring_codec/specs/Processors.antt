@@ -5,10 +5,10 @@ use Rattle.std.specs.Prelude.{nat_le, ◌&&◌, ◌==◌, if◌then◌else◌}
 use Rattle.std.proofs.lemmas.Bool.{le-leb, leb-true, eqb-true, eqb-false, cases_Bool}
 use Rattle.std.proofs.lemmas.Bool.Decides.{nat_tests}
 use Rattle.ring_base.specs.Processors.{IsProc, max_processors}
-use Rattle.ring_codec.specs.Reading.{IsFormat, byte_at, such_at, made_at}
+use Rattle.ring_codec.specs.Reading.{IsFormat, byte_at, tested_at, mapped_at}
 use Rattle.ring_codec.specs.NumberFormats.{byte_format}
 use Rattle.ring_codec.specs.ReadingLaws.{such_format}
-use Rattle.ring_codec.specs.Formats.{Format, byte, such, fields_format}
+use Rattle.ring_codec.specs.Formats.{Format, byte_field, tested_format, fields_format}
 
 -- ---- a processor: its number, 1 to 16, in one byte
 
@@ -30,7 +30,7 @@ true-is_proc n h = grind (arith, nat_tests)
 
 -- reads a processor from the front
 unfoldable pub proc_at : List ℕ → Option (ℕ × List ℕ)
-proc_at bytes = such_at is_proc byte_at bytes
+proc_at bytes = tested_at is_proc byte_at bytes
 
 -- a processor is read exactly
 pub proc_format : IsFormat proc_encoding IsProc proc_at
@@ -60,7 +60,7 @@ some_proc_of n = if n == 0 then None else Some n
 
 -- reads a processor or none from the front
 unfoldable pub some_proc_at : List ℕ → Option (Option ℕ × List ℕ)
-some_proc_at bytes = made_at some_proc_of (such_at (λ n. nat_le n max_processors) byte_at) bytes
+some_proc_at bytes = mapped_at some_proc_of (tested_at (λ n. nat_le n max_processors) byte_at) bytes
 
 encoded : (n : ℕ) → some_proc_encoding (some_proc_of n) ≡ n ∷ []
 encoded n = elim (cases_Bool (n == 0)) [
@@ -85,7 +85,7 @@ back (Some p) f =
 -- a processor or none is read exactly
 pub some_proc_format : IsFormat some_proc_encoding SomeProcFits some_proc_at
 unfolding some_proc_at
-some_proc_format = fields_format (such (λ n. nat_le n max_processors) byte) some_proc_of some_proc_encoding SomeProcFits (record {
+some_proc_format = fields_format (tested_format (λ n. nat_le n max_processors) byte_field) some_proc_of some_proc_encoding SomeProcFits (record {
   encoded = λ n f. encoded n;
   fits = λ n f. fits n (leb-true n max_processors f.1);
   back = λ o f. let b = back o f in (b.0, (omega (arith, b.1), le-leb b.0 max_processors b.1), b.2);

@@ -74,41 +74,41 @@ byte_at [] = None
 byte_at (b ∷ bytes) = Some (b, bytes)
 
 -- reads n bytes as they are
-abbrev pub text_at : ℕ → List ℕ → Option (List ℕ × List ℕ)
-text_at n bytes = if nat_lt (length bytes) n then None else Some (take n bytes, drop n bytes)
+abbrev pub raw_bytes_at : ℕ → List ℕ → Option (List ℕ × List ℕ)
+raw_bytes_at n bytes = if nat_lt (length bytes) n then None else Some (take n bytes, drop n bytes)
 
 -- reads nothing
-abbrev pub nothing_at : {A : Type 0} → List ℕ → Option (A × List ℕ)
-nothing_at bytes = None
+abbrev pub failing_at : {A : Type 0} → List ℕ → Option (A × List ℕ)
+failing_at bytes = None
 
 -- reads a value of no bytes
 abbrev pub empty_at : {A : Type 0} → A → List ℕ → Option (A × List ℕ)
 empty_at v bytes = Some (v, bytes)
 
 -- reads n values
-unfoldable pub times_at : {A : Type 0} → ℕ → (List ℕ → Option (A × List ℕ)) → List ℕ → Option (List A × List ℕ)
-times_at zero at bytes = Some ([], bytes)
-times_at (suc n) at bytes = do
+unfoldable pub repeated_at : {A : Type 0} → ℕ → (List ℕ → Option (A × List ℕ)) → List ℕ → Option (List A × List ℕ)
+repeated_at zero at bytes = Some ([], bytes)
+repeated_at (suc n) at bytes = do
   first ← at bytes
-  others ← times_at n at first.1
+  others ← repeated_at n at first.1
   Some (first.0 ∷ others.0, others.1)
 
 -- reads a value, then one that may depend on it
-abbrev pub then_at : {A B : Type 0} → (List ℕ → Option (A × List ℕ)) → (A → List ℕ → Option (B × List ℕ)) → List ℕ → Option ((A × B) × List ℕ)
-then_at first second bytes = do
+abbrev pub sequence_at : {A B : Type 0} → (List ℕ → Option (A × List ℕ)) → (A → List ℕ → Option (B × List ℕ)) → List ℕ → Option ((A × B) × List ℕ)
+sequence_at first second bytes = do
   x ← first bytes
   y ← second x.0 x.1
   Some ((x.0, y.0), y.1)
 
 -- reads a value, which must pass a test
-abbrev pub such_at : {A : Type 0} → (A → Bool) → (List ℕ → Option (A × List ℕ)) → List ℕ → Option (A × List ℕ)
-such_at test at bytes = do
+abbrev pub tested_at : {A : Type 0} → (A → Bool) → (List ℕ → Option (A × List ℕ)) → List ℕ → Option (A × List ℕ)
+tested_at test at bytes = do
   x ← at bytes
   if test x.0 then Some x else None
 
 -- reads a value, and makes another from it
-abbrev pub made_at : {A B : Type 0} → (A → B) → (List ℕ → Option (A × List ℕ)) → List ℕ → Option (B × List ℕ)
-made_at make at bytes = do
+abbrev pub mapped_at : {A B : Type 0} → (A → B) → (List ℕ → Option (A × List ℕ)) → List ℕ → Option (B × List ℕ)
+mapped_at make at bytes = do
   x ← at bytes
   Some (make x.0, x.1)
 
@@ -122,7 +122,7 @@ tagged_at at bytes = do
 abbrev pub sized_with : {A : Type 0} → (List ℕ → Option (ℕ × List ℕ)) → (List ℕ → Option (A × List ℕ)) → List ℕ → Option (A × List ℕ)
 sized_with number at bytes = do
   n ← number bytes
-  text ← text_at n.0 n.1
+  text ← raw_bytes_at n.0 n.1
   x ← at text.0
   if length x.1 == 0 then Some (x.0, text.1) else None
 

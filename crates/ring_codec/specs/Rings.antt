@@ -7,8 +7,8 @@ use Rattle.byteorder.specs.Endian.{big_bytes}
 use Rattle.ring_base.specs.Numbers.{max_number}
 use Rattle.ring_base.specs.Processors.{IsProc, max_processors}
 use Rattle.ring_base.specs.declared.ring_id.RingId.{RingId}
-use Rattle.ring_codec.specs.Reading.{IsFormat, made_at, ◌⊕◌}
-use Rattle.ring_codec.specs.Formats.{Format, byte, u64_field, ◌&◌, such, fields_format}
+use Rattle.ring_codec.specs.Reading.{IsFormat, mapped_at, ◌⊕◌}
+use Rattle.ring_codec.specs.Formats.{Format, byte_field, u64_field, ◌&◌, tested_format, fields_format}
 use Rattle.ring_codec.specs.Processors.{proc}
 
 -- ---- a number up to the greatest, `max_number`, in 8 bytes
@@ -19,7 +19,7 @@ is_number n = nat_le n max_number
 
 -- the format of such numbers
 abbrev pub number : Format ℕ
-number = such is_number u64_field
+number = tested_format is_number u64_field
 
 -- ---- a ring: its number in 8 bytes, and its representative in one
 
@@ -42,7 +42,7 @@ ring_fields = number & proc
 
 -- reads a ring from the front
 unfoldable pub ring_at : List ℕ → Option (RingId × List ℕ)
-ring_at bytes = made_at ring_of ring_fields.at bytes
+ring_at bytes = mapped_at ring_of ring_fields.at bytes
 
 -- a ring is read exactly
 pub ring_format : IsFormat ring_encoding RingFits ring_at
@@ -87,11 +87,11 @@ some_ring_of p = if is_none_pair p then None else Some (ring_of p)
 
 -- the format of such numbers and representatives
 abbrev pair : Format (ℕ × ℕ)
-pair = such some_ring_test (u64_field & byte)
+pair = tested_format some_ring_test (u64_field & byte_field)
 
 -- reads a ring or none from the front
 unfoldable pub some_ring_at : List ℕ → Option (Option RingId × List ℕ)
-some_ring_at bytes = made_at some_ring_of pair.at bytes
+some_ring_at bytes = mapped_at some_ring_of pair.at bytes
 
 ring_pair : (a b : ℕ) → is_none_pair (a, b) ≡ false → some_ring_test (a, b) ≡ true → ((1 ≤ a) × (a ≤ max_number)) × IsProc b
 ring_pair a b n h =

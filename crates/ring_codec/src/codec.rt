@@ -1,7 +1,7 @@
 //! The traits of values that are encoded into a buffer with room for them, and decoded from the front of bytes.
 //!
-//! A type states its encoding, the limits of its values and how they are read. Its law `format` proves that reading is
-//! exact.
+//! A type states its encoding, the limits of its values and how they are read. Its law `decoding_is_exact` proves that
+//! reading is exact.
 //!
 //! Formats: Numbers and parts; Frames
 
@@ -15,7 +15,7 @@ use std::alloc::Allocator;
 
 /// A type whose values have exactly one encoding each, a list of bytes.
 ///
-/// The law `format` proves that reading is exact.
+/// The law `decoding_is_exact` proves that reading is exact.
 ///
 /// Formats: Numbers and parts; Frames
 pub trait Encode: Sized {
@@ -23,26 +23,26 @@ pub trait Encode: Sized {
     ghost encoding: { Self → List ℕ };
 
     /// The maximum length of an encoding of this type, in bytes.
-    ghost most: { ℕ };
+    ghost max_encoded_len: { ℕ };
 
     /// True of the values that are within the limits of their format.
     ///
     /// Only these are written.
-    ghost fits: { Self → Type 0 };
+    ghost is_within_limits: { Self → Type 0 };
 
     /// Reads from the front of bytes: returns the value there with the bytes after it, or nothing if no encoding begins
     /// the bytes.
-    ghost at: { List ℕ → Option (Self × List ℕ) };
+    ghost decoding_at_front: { List ℕ → Option (Self × List ℕ) };
 
     /// Returns the length of the value's encoding in bytes.
     ///
     /// The value must be within the limits of its format.
     ///
     /// Formats: Numbers and parts; Frames
-    fn size(&self) -> usize
-        requires { fits self.now }
+    fn encoded_len(&self) -> usize
+        requires { is_within_limits self.now }
         ensures value { result ≡ length (encoding self.now) }
-        ensures small { result ≤ most };
+        ensures small { result ≤ max_encoded_len };
 
     /// Appends the value's encoding to `out`, and changes nothing before it.
     ///
@@ -50,15 +50,15 @@ pub trait Encode: Sized {
     ///
     /// Formats: Numbers and parts; Frames
     fn write<B: Allocator + Copy>(&self, out: &mut BytesMut<B>)
-        requires fits { fits self.now }
+        requires fits { is_within_limits self.now }
         requires room { length (encoding self.now) ≤ out.old.spare }
         ensures { Appends out.old out.new (encoding self.now) };
 
-    /// States that reading is exact: if the bytes begin with the encoding of a value within the limits, `at` returns
-    /// that value.
+    /// States that reading is exact: if the bytes begin with the encoding of a value within the limits,
+    /// `decoding_at_front` returns that value.
     ///
     /// Otherwise it returns nothing.
-    ghost format: { IsFormat encoding fits at };
+    ghost decoding_is_exact: { IsFormat encoding is_within_limits decoding_at_front };
 }
 
 /// A type whose values are decoded from the front of bytes, into memory of the given allocator.
@@ -74,5 +74,5 @@ pub trait Decode<A: Allocator + Copy>: Encode {
     ///
     /// Formats: Numbers and parts; Frames
     fn read(alloc: A, from: &mut Reader<'_>) -> Result<Self, Fault>
-        ensures { IsReadResult result from.new (Self.at from.old) };
+        ensures { IsReadResult result from.new (Self.decoding_at_front from.old) };
 }

@@ -9,19 +9,19 @@
 
 mod arrays;
 mod codec;
-mod many;
+mod encoded_numbers;
+mod length_prefixed;
 mod numbers;
 mod processors;
 mod reader;
 mod rings;
-mod sized;
+mod value_lists;
 mod wire;
-mod words;
 
 pub use codec::{Decode, Encode};
-pub use many::{read_in_place, read_many, size_many, write_many};
+pub use encoded_numbers::EncodedNumbers;
+pub use length_prefixed::{decode_length_prefixed, encode_length_prefixed};
 pub use reader::Reader;
 pub use ring_base::{Fault, Ghost, MAX, PROCESSORS, Proc, ProcSet, RingId, WINDOW_SIZE, ghost_of};
-pub use sized::{read_sized, write_sized};
+pub use value_lists::{decode_list, decode_list_into, encode_list, list_encoded_len};
 pub use wire::Wire;
-pub use words::EncodedNumbers;

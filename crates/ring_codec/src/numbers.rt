@@ -17,15 +17,15 @@ use std::alloc::Allocator;
 impl Encode for u8 {
     ghost encoding = { λ n. n ∷ [] };
 
-    ghost most = { 1 };
+    ghost max_encoded_len = { 1 };
 
-    ghost fits = { λ n. n < 256 };
+    ghost is_within_limits = { λ n. n < 256 };
 
-    ghost at = { byte_at };
+    ghost decoding_at_front = { byte_at };
 
-    ghost format = { byte_format };
+    ghost decoding_is_exact = { byte_format };
 
-    fn size(&self) -> usize {
+    fn encoded_len(&self) -> usize {
         1
     }
 
@@ -36,7 +36,7 @@ impl Encode for u8 {
 
 impl<A: Allocator + Copy> Decode<A> for u8 {
     fn read(_alloc: A, from: &mut Reader<'_>) -> Result<u8, Fault> {
-        let byte = from.take(1)?;
+        let byte = from.take_bytes(1)?;
         Ok(byte[0])
     }
 }
@@ -44,15 +44,15 @@ impl<A: Allocator + Copy> Decode<A> for u8 {
 impl Encode for u16 {
     ghost encoding = { λ n. big_bytes 2 n };
 
-    ghost most = { 2 };
+    ghost max_encoded_len = { 2 };
 
-    ghost fits = { IsWord 2 };
+    ghost is_within_limits = { IsWord 2 };
 
-    ghost at = { number_at 2 };
+    ghost decoding_at_front = { number_at 2 };
 
-    ghost format = { number_format2 };
+    ghost decoding_is_exact = { number_format2 };
 
-    fn size(&self) -> usize {
+    fn encoded_len(&self) -> usize {
         2
     }
 
@@ -65,7 +65,7 @@ impl Encode for u16 {
 
 impl<A: Allocator + Copy> Decode<A> for u16 {
     fn read(_alloc: A, from: &mut Reader<'_>) -> Result<u16, Fault> {
-        let word = from.take(2)?;
+        let word = from.take_bytes(2)?;
         Ok(BigEndian::read_u16(word))
     }
 }
@@ -73,15 +73,15 @@ impl<A: Allocator + Copy> Decode<A> for u16 {
 impl Encode for u32 {
     ghost encoding = { λ n. big_bytes 4 n };
 
-    ghost most = { 4 };
+    ghost max_encoded_len = { 4 };
 
-    ghost fits = { IsWord 4 };
+    ghost is_within_limits = { IsWord 4 };
 
-    ghost at = { number_at 4 };
+    ghost decoding_at_front = { number_at 4 };
 
-    ghost format = { number_format4 };
+    ghost decoding_is_exact = { number_format4 };
 
-    fn size(&self) -> usize {
+    fn encoded_len(&self) -> usize {
         4
     }
 
@@ -94,7 +94,7 @@ impl Encode for u32 {
 
 impl<A: Allocator + Copy> Decode<A> for u32 {
     fn read(_alloc: A, from: &mut Reader<'_>) -> Result<u32, Fault> {
-        let word = from.take(4)?;
+        let word = from.take_bytes(4)?;
         Ok(BigEndian::read_u32(word))
     }
 }
@@ -102,15 +102,15 @@ impl<A: Allocator + Copy> Decode<A> for u32 {
 impl Encode for u64 {
     ghost encoding = { λ n. big_bytes 8 n };
 
-    ghost most = { 8 };
+    ghost max_encoded_len = { 8 };
 
-    ghost fits = { IsWord 8 };
+    ghost is_within_limits = { IsWord 8 };
 
-    ghost at = { number_at 8 };
+    ghost decoding_at_front = { number_at 8 };
 
-    ghost format = { number_format8 };
+    ghost decoding_is_exact = { number_format8 };
 
-    fn size(&self) -> usize {
+    fn encoded_len(&self) -> usize {
         8
     }
 
@@ -123,7 +123,7 @@ impl Encode for u64 {
 
 impl<A: Allocator + Copy> Decode<A> for u64 {
     fn read(_alloc: A, from: &mut Reader<'_>) -> Result<u64, Fault> {
-        let word = from.take(8)?;
+        let word = from.take_bytes(8)?;
         Ok(BigEndian::read_u64(word))
     }
 }

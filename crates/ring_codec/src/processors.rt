@@ -18,15 +18,15 @@ use std::alloc::Allocator;
 impl Encode for Proc {
     ghost encoding = { proc_encoding };
 
-    ghost most = { 1 };
+    ghost max_encoded_len = { 1 };
 
-    ghost fits = { IsProc };
+    ghost is_within_limits = { IsProc };
 
-    ghost at = { proc_at };
+    ghost decoding_at_front = { proc_at };
 
-    ghost format = { proc_format };
+    ghost decoding_is_exact = { proc_format };
 
-    fn size(&self) -> usize {
+    fn encoded_len(&self) -> usize {
         1
     }
 
@@ -52,15 +52,15 @@ impl<A: Allocator + Copy> Decode<A> for Proc {
 impl Encode for Option<Proc> {
     ghost encoding = { some_proc_encoding };
 
-    ghost most = { 1 };
+    ghost max_encoded_len = { 1 };
 
-    ghost fits = { SomeProcFits };
+    ghost is_within_limits = { SomeProcFits };
 
-    ghost at = { some_proc_at };
+    ghost decoding_at_front = { some_proc_at };
 
-    ghost format = { some_proc_format };
+    ghost decoding_is_exact = { some_proc_format };
 
-    fn size(&self) -> usize {
+    fn encoded_len(&self) -> usize {
         1
     }
 
@@ -89,15 +89,15 @@ impl<A: Allocator + Copy> Decode<A> for Option<Proc> {
 impl Encode for ProcSet {
     ghost encoding = { λ set. big_bytes 2 set };
 
-    ghost most = { 2 };
+    ghost max_encoded_len = { 2 };
 
-    ghost fits = { IsWord 2 };
+    ghost is_within_limits = { IsWord 2 };
 
-    ghost at = { number_at 2 };
+    ghost decoding_at_front = { number_at 2 };
 
-    ghost format = { number_format2 };
+    ghost decoding_is_exact = { number_format2 };
 
-    fn size(&self) -> usize {
+    fn encoded_len(&self) -> usize {
         2
     }
 

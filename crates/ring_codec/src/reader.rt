@@ -1,7 +1,7 @@
 //! A reader that takes bytes from the front of a slice.
 
 ghost use Rattle.std.specs.Prelude.{◌≡◌, ℕ, ◌-◌, ◌≤◌, List, length, take, drop};
-ghost use Rattle.ring_codec.specs.Reading.{IsReadResultBy, text_at};
+ghost use Rattle.ring_codec.specs.Reading.{IsReadResultBy, raw_bytes_at};
 
 use ring_base::Fault;
 use std::marker::Model;
@@ -38,8 +38,8 @@ impl<'a> Reader<'a> {
     /// Takes the next `count` bytes and returns them, borrowed from the bytes that are read.
     ///
     /// Errors: `BadFrame` if fewer than `count` bytes are left. What is then left to read is unspecified.
-    pub fn take(&mut self, count: usize) -> Result<&'a [u8], Fault>
-        ensures { IsReadResultBy (λ x. x.now) result self.new (text_at count self.old) }
+    pub fn take_bytes(&mut self, count: usize) -> Result<&'a [u8], Fault>
+        ensures { IsReadResultBy (λ x. x.now) result self.new (raw_bytes_at count self.old) }
     {
         if self.rest.len() < count {
             return Err(Fault::BadFrame);

@@ -17,15 +17,15 @@ use std::alloc::Allocator;
 impl Encode for RingId {
     ghost encoding = { ring_encoding };
 
-    ghost most = { 9 };
+    ghost max_encoded_len = { 9 };
 
-    ghost fits = { RingFits };
+    ghost is_within_limits = { RingFits };
 
-    ghost at = { ring_at };
+    ghost decoding_at_front = { ring_at };
 
-    ghost format = { ring_format };
+    ghost decoding_is_exact = { ring_format };
 
-    fn size(&self) -> usize {
+    fn encoded_len(&self) -> usize {
         9
     }
 
@@ -53,15 +53,15 @@ impl<A: Allocator + Copy> Decode<A> for RingId {
 impl Encode for Option<RingId> {
     ghost encoding = { some_ring_encoding };
 
-    ghost most = { 9 };
+    ghost max_encoded_len = { 9 };
 
-    ghost fits = { SomeRingFits };
+    ghost is_within_limits = { SomeRingFits };
 
-    ghost at = { some_ring_at };
+    ghost decoding_at_front = { some_ring_at };
 
-    ghost format = { some_ring_format };
+    ghost decoding_is_exact = { some_ring_format };
 
-    fn size(&self) -> usize {
+    fn encoded_len(&self) -> usize {
         9
     }
 

@@ -4,7 +4,7 @@
 
 ghost use Rattle.std.specs.Prelude.{◌≡◌, ℕ, ◌+◌, ◌^◌, ◌<◌, ◌≤◌, List, ◌++◌, length, take, OnOk, OnErr, IfOk, IfErr, MatchResult};
 ghost use Rattle.ring_base.specs.declared.fault.Fault.TheVariants.{Memory, BadFrame};
-ghost use Rattle.ring_codec.specs.Prefixes.{IsEncodedPrefix, HasNoEncodedPrefix, IsReadFault, same_prefix};
+ghost use Rattle.ring_codec.specs.EncodedPrefixes.{IsEncodedPrefix, HasNoEncodedPrefix, IsReadFault, same_prefix};
 
 use crate::codec::{Decode, Encode};
 use crate::reader::Reader;
@@ -61,12 +61,12 @@ pub trait Wire<A: Allocator + Copy>: Sized {
 impl<A: Allocator + Copy, T: Decode<A> + Drop> Wire<A> for T {
     ghost encoding = { T.encoding };
 
-    ghost fits = { T.fits };
+    ghost fits = { T.is_within_limits };
 
-    ghost prefix_free = { λ v w x y f g e. same_prefix T.format v w x y f g e };
+    ghost prefix_free = { λ v w x y f g e. same_prefix T.decoding_is_exact v w x y f g e };
 
     fn put(&self, out: &mut BytesMut<A>) -> Result<(), Fault> {
-        out.reserve(self.size())?;
+        out.reserve(self.encoded_len())?;
         self.write(out);
         Ok(())
     }

@@ -7,7 +7,7 @@ use crate::served::served_on;
 use ring_base::{Fault, Fixed};
 use ring_object::Object;
 use ring_sweep::{Script, ShelfVocabulary, StandardObjects, script_of};
-use ring_trace::{Format, Selection, TraceOptions, trace_of};
+use ring_trace::{Selection, TraceFormat, TraceOptions, trace_of};
 use std::alloc::Global;
 use std::str;
 use std::test::Fail;
@@ -95,7 +95,7 @@ fn seen<O: Object>(
 fn traced_counts<O: Object<Alloc = Global>>(alloc: Global, text: &str) -> Result<String, Fault> {
     let (mut out, mut frames, mut err) = (Vec::new(alloc), Vec::new(alloc), Vec::new(alloc));
     let asked = TraceOptions {
-        format: Format::Text,
+        format: TraceFormat::Text,
         selection: Selection::all(),
     };
     let bytes = text.as_bytes();

@@ -11,6 +11,6 @@ pub use configuration::Configuration;
 pub use outcome::CommitOutcome;
 pub use ring_wire::{CommitEntry, CommitToken, Entries};
 pub use rounds::{
-    fill, is_at, is_first_round, is_second_round, is_start, learn, propose, receiver, safe_of,
-    start,
+    fill, greatest_reported_mark, is_first_round, is_second_round, is_start, is_token_at, learn,
+    propose, receiver, start,
 };

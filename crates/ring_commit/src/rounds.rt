@@ -30,14 +30,14 @@ pub fn receiver(token: &CommitToken) -> Proc
 /// Returns whether `me` is the member to which the commit token goes. It is false for a token without members.
 ///
 /// Rules: The commit token 1
-pub fn is_at(me: Proc, token: &CommitToken) -> bool
+pub fn is_token_at(me: Proc, token: &CommitToken) -> bool
     ensures { result ≡ is_at me token.now }
 {
     receiver_number(token) == me.number()
 }
 
 /// Returns whether a node in Gather takes this commit token in its first round, if the token is at this node
-/// ([`is_at`]).
+/// ([`is_token_at`]).
 ///
 /// True if the hop is below the number of members, the members are exactly `candidates`, and the ring's number is above
 /// `floor`. `candidates` must be the node's `proc_set` less `fail_set`, and `floor` the greatest number of a ring that
@@ -53,7 +53,7 @@ pub fn is_first_round(floor: u64, candidates: ProcSet, token: &CommitToken) -> b
 }
 
 /// Returns whether a node in Commit takes this commit token in its second round, if the token is at this node
-/// ([`is_at`]).
+/// ([`is_token_at`]).
 ///
 /// With m members, all of these must hold:
 ///
@@ -74,28 +74,28 @@ pub fn is_second_round(running: &Configuration, own: &CommitEntry, token: &Commi
     if 2 * members <= hop {
         return false;
     }
-    if !is_of(running, token) {
+    if !is_for_ring(running, token) {
         return false;
     }
-    is_own(own, token) && is_sound(&own.old, token.entries.as_slice())
+    has_own_entry(own, token) && has_no_front_below_safe(&own.old, token.entries.as_slice())
 }
 
 /// Returns whether the commit token has completed both rounds of the ring `running`.
 ///
 /// True if its hop is 2m, with m members, and ring and members are those of `running`. Whether the token is at this
-/// node isn't checked: see [`is_at`].
+/// node isn't checked: see [`is_token_at`].
 ///
 /// Rules: The commit token 7
 pub fn is_start(running: &Configuration, token: &CommitToken) -> bool
     ensures { result ≡ is_start running.now token.now }
 {
-    u32::from(token.hop) == 2 * token.members.len() && is_of(running, token)
+    u32::from(token.hop) == 2 * token.members.len() && is_for_ring(running, token)
 }
 
 /// Returns the greatest safe mark in the entries of members from the ring `old`, 0 if there is no such entry.
 ///
 /// Rules: Recovery 1
-pub fn safe_of(old: &RingId, entries: &[CommitEntry]) -> u64
+pub fn greatest_reported_mark(old: &RingId, entries: &[CommitEntry]) -> u64
     ensures { result ≡ safe_of (reports_of old.now entries.now) }
 {
     let mut safe = 0;
@@ -135,9 +135,9 @@ pub fn propose(me: Proc, greatest: u64, members: ProcSet, own: CommitEntry) -> C
 
 /// Performs the first round, in Gather: adds the node's entry, and returns the token to forward as `Pass`.
 ///
-/// Returns `Ignored` if the token isn't at the node ([`is_at`]) or [`is_first_round`] is false. A token of hop h with m
-/// members must have min(h, m) entries. The ring core tests `is_at` and `is_first_round` as it decides, and adds the
-/// entry in place: `RunningCore::fill` of `ring_srp_transitions`.
+/// Returns `Ignored` if the token isn't at the node ([`is_token_at`]) or [`is_first_round`] is false. A token of hop h
+/// with m members must have min(h, m) entries. The ring core tests `is_token_at` and `is_first_round` as it decides,
+/// and adds the entry in place: `RunningCore::fill` of `ring_srp_transitions`.
 ///
 /// Rules: The commit token 5 and 11
 pub fn fill(
@@ -150,7 +150,7 @@ pub fn fill(
     requires { length token.entries ≡ entries_at token.hop (size token.members) }
     ensures { result ≡ fill_outcome me floor candidates own token }
 {
-    if !is_at(me, &token) {
+    if !is_token_at(me, &token) {
         return CommitOutcome::Ignored;
     }
     if !is_first_round(floor, candidates, &token) {
@@ -163,8 +163,8 @@ pub fn fill(
 
 /// Performs the second round, in Commit: returns the token to forward as `Recover`. Its entries are the node's plan.
 ///
-/// Returns `Ignored` if the token isn't at the node ([`is_at`]) or [`is_second_round`] is false. The ring core tests
-/// both as it decides, and forwards the token in place: `RunningCore::learn` of `ring_srp_transitions`.
+/// Returns `Ignored` if the token isn't at the node ([`is_token_at`]) or [`is_second_round`] is false. The ring core
+/// tests both as it decides, and forwards the token in place: `RunningCore::learn` of `ring_srp_transitions`.
 ///
 /// Rules: The commit token 6 and 11
 pub fn learn(
@@ -175,7 +175,7 @@ pub fn learn(
 ) -> CommitOutcome
     ensures { result ≡ learn_outcome me running.now own.now token }
 {
-    if !is_at(me, &token) {
+    if !is_token_at(me, &token) {
         return CommitOutcome::Ignored;
     }
     if !is_second_round(running, own, &token) {
@@ -187,7 +187,7 @@ pub fn learn(
 
 /// Ends the second round, in Recovery: returns `Start` with `first`, the first token of the ring, for a visit.
 ///
-/// Returns `Ignored` if the commit token isn't at the node ([`is_at`]) or [`is_start`] is false. Whether the node
+/// Returns `Ignored` if the commit token isn't at the node ([`is_token_at`]) or [`is_start`] is false. Whether the node
 /// accepts `first` isn't checked. The ring core makes all three tests as it decides: `RunningCore::decide` of
 /// `ring_srp_transitions`.
 ///
@@ -195,7 +195,7 @@ pub fn learn(
 pub fn start(me: Proc, running: &Configuration, first: Token, token: &CommitToken) -> CommitOutcome
     ensures { result ≡ start_outcome me running.now first token.now }
 {
-    if is_at(me, token) && is_start(running, token) {
+    if is_token_at(me, token) && is_start(running, token) {
         CommitOutcome::Start(first)
     } else {
         CommitOutcome::Ignored
@@ -213,7 +213,7 @@ fn receiver_number(token: &CommitToken) -> u8
 }
 
 /// Returns whether a commit token has exactly this ring and these members.
-fn is_of(running: &Configuration, token: &CommitToken) -> bool
+fn is_for_ring(running: &Configuration, token: &CommitToken) -> bool
     ensures { result ≡ is_of running.now token.now }
 {
     token.ring == running.ring && token.members == running.members
@@ -221,18 +221,18 @@ fn is_of(running: &Configuration, token: &CommitToken) -> bool
 
 /// Returns whether the entry of the member to which the token goes equals `own`. The token must name at least one
 /// member.
-fn is_own(own: &CommitEntry, token: &CommitToken) -> bool
+fn has_own_entry(own: &CommitEntry, token: &CommitToken) -> bool
     requires { 0 < size token.now.members }
     ensures { result ≡ is_own own.now (slice_get token.now.entries (position_of_hop token.now)) }
 {
     let position = u32::from(token.hop) % token.members.len();
     match token.entries.as_slice().get(position as usize) {
-        Some(entry) => is_same(entry, own),
+        Some(entry) => is_same_entry(entry, own),
         None => false,
     }
 }
 
-fn is_same(a: &CommitEntry, b: &CommitEntry) -> bool
+fn is_same_entry(a: &CommitEntry, b: &CommitEntry) -> bool
     ensures { result ≡ same_entry a.now b.now }
 {
     a.old == b.old && a.front == b.front && a.mark == b.mark && a.held == b.held
@@ -240,14 +240,14 @@ fn is_same(a: &CommitEntry, b: &CommitEntry) -> bool
 
 /// Returns whether each member from the ring `old` reports a front of at least the greatest safe mark that one of them
 /// reports.
-fn is_sound(old: &RingId, entries: &[CommitEntry]) -> bool
+fn has_no_front_below_safe(old: &RingId, entries: &[CommitEntry]) -> bool
     ensures { result ≡ is_sound old.now entries.now }
 {
-    none_behind(safe_of(old, entries), old, entries)
+    all_fronts_reach(greatest_reported_mark(old, entries), old, entries)
 }
 
 /// Returns whether each member from the ring `old` reports a front of at least `safe`.
-fn none_behind(safe: u64, old: &RingId, entries: &[CommitEntry]) -> bool
+fn all_fronts_reach(safe: u64, old: &RingId, entries: &[CommitEntry]) -> bool
     ensures { result ≡ none_behind safe (reports_of old.now entries.now) }
 {
     for entry in entries {

@@ -152,7 +152,7 @@ weaker_at_err (Err e) P Q told more = more e told
 pub record IsSoFar {A : Type 0} (frame_reader : FrameReader A) (input input' out out' : Option (List ℕ)) : Type 0 where
   pub frames : List (Frame A)
   pub lists : AreListed input (left_of frame_reader input') out out' frames
-  pub position : frame_reader.position ≡ u64_saturate (length (encodings_of frames))
+  pub position : frame_reader.next_frame_offset ≡ u64_saturate (length (encodings_of frames))
   pub ended : IsEndRight frame_reader input'
 
 consumes_none : (bytes : List ℕ) (input : Option (List ℕ)) → bytes ≡ [] → Consumes input (prepend_known bytes input) []
@@ -169,7 +169,7 @@ appends_none (Some xs) = sym (append-nil xs)
 
 -- Nothing is read yet.
 pub so_far_none : {A : Type 0} (frame_reader : FrameReader A) (input out : Option (List ℕ)) → unread_bytes frame_reader ≡ []
-    → frame_reader.position ≡ 0 → frame_reader.state ≡ Open → IsSoFar frame_reader input input out out
+    → frame_reader.next_frame_offset ≡ 0 → frame_reader.state ≡ Open → IsSoFar frame_reader input input out out
 so_far_none frame_reader input out empty first fresh = record {
   frames = [];
   lists = record { fit = λ k d low. absurd (omega arith); read = consumes_none (unread_bytes frame_reader) input empty; printed = appends_none out };
@@ -200,7 +200,7 @@ none_cut A input left out failure e =
 -- One more frame is taken, and its line is printed.
 pub so_far_more : {A : Type 0} (frame_reader frame_reader' : FrameReader A) (input mid last out printed out' : Option (List ℕ))
     (frame : Frame A) → IsSoFar frame_reader input mid out printed
-    → IsNext (left_of frame_reader mid) (left_of frame_reader' last) frame_reader.position frame_reader'.position (Some frame)
+    → IsNext (left_of frame_reader mid) (left_of frame_reader' last) frame_reader.next_frame_offset frame_reader'.next_frame_offset (Some frame)
     → Appends printed out' (line_of (frame_text frame)) → IsEndRight frame_reader' last
     → IsSoFar frame_reader' input last out out'
 so_far_more {A} frame_reader frame_reader' input mid last out printed out' frame so (fits, taken, passed) line ended =
@@ -238,14 +238,14 @@ all_consumed (Some xs) (Some ys) (Some zs) bytes encoded read kept end =
 
 -- If nothing is left, all of the input is listed.
 pub so_far_whole : {A : Type 0} (frame_reader frame_reader' : FrameReader A) (input mid last out out' : Option (List ℕ)) → IsSoFar frame_reader input mid out out'
-    → IsNext {A = A} (left_of frame_reader mid) (left_of frame_reader' last) frame_reader.position frame_reader'.position None → IsListed A input last out out'
+    → IsNext {A = A} (left_of frame_reader mid) (left_of frame_reader' last) frame_reader.next_frame_offset frame_reader'.next_frame_offset None → IsListed A input last out out'
 so_far_whole frame_reader frame_reader' input mid last out out' so (kept, end) =
     let whole = all_consumed input (left_of frame_reader mid) last (unread_bytes frame_reader') (encodings_of so.frames) so.lists.read kept end in
     (so.frames, record { fit = so.lists.fit; read = whole.0; printed = so.lists.printed }, whole.1)
 
 -- If there is no next frame, the listing is cut there.
 pub so_far_cut : {A : Type 0} (frame_reader : FrameReader A) (input mid left out out' : Option (List ℕ)) (state : InputState) (failure : Failure)
-    → IsSoFar frame_reader input mid out out' → IsStop A (left_of frame_reader mid) left frame_reader.position state failure
+    → IsSoFar frame_reader input mid out out' → IsStop A (left_of frame_reader mid) left frame_reader.next_frame_offset state failure
     → IsCut A input left out out' failure
 so_far_cut {A} frame_reader input mid left out out' state (Refused fault) so stop = (so.frames, left_of frame_reader mid, state, so.lists, stop)
 so_far_cut {A} frame_reader input mid left out out' state (BadFrame byte) so stop =

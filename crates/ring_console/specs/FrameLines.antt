@@ -9,8 +9,8 @@ use Rattle.ring_base.specs.declared.ring_id.RingId.{RingId}
 use Rattle.ring_payload.specs.declared.call.Call.{Call}
 use Rattle.ring_payload.specs.declared.calls.Pack.{Pack}
 use Rattle.ring_payload.specs.declared.calls.Part.{Part}
-use Rattle.ring_payload.specs.declared.content.Content.{Content}
-use Rattle.ring_payload.specs.declared.content.Content.TheVariants as content
+use Rattle.ring_payload.specs.declared.content.WrappedPayload.{WrappedPayload}
+use Rattle.ring_payload.specs.declared.content.WrappedPayload.TheVariants as content
 use Rattle.ring_payload.specs.declared.content.Payload.{Payload}
 use Rattle.ring_payload.specs.declared.content.Payload.TheVariants as payload
 use Rattle.ring_payload.specs.declared.content.Wrapped.{Wrapped}
@@ -61,7 +61,7 @@ snap_text snap = codes "snap at " ++ decimal snap.at ++ codes " total " ++ decim
     ++ decimal snap.offset ++ codes " count " ++ decimal (length snap.bytes)
 
 -- A message's content that is sent again on a later ring.
-abbrev pub content_text : {A : Type 0} → Content A → List ℕ
+abbrev pub content_text : {A : Type 0} → WrappedPayload A → List ℕ
 content_text (content.Call call) = call_text call
 content_text (content.Head head) = head_text head
 content_text (content.Part part) = part_text part

@@ -24,7 +24,7 @@ BeginsWithNoFrame A bytes = HasNoEncodedPrefix {A = Frame A} encoding_of FrameFi
 
 -- The bytes that were read ahead and not taken yet.
 abbrev pub unread_bytes : {A : Type 0} → FrameReader A → List ℕ
-unread_bytes frame_reader = drop frame_reader.taken frame_reader.bytes.items
+unread_bytes frame_reader = drop frame_reader.taken_bytes frame_reader.bytes.items
 
 -- The rest of an input: the bytes read ahead and not taken yet, and then those still to be read.
 abbrev pub left_of : {A : Type 0} → FrameReader A → Option (List ℕ) → Option (List ℕ)

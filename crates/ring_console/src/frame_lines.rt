@@ -12,9 +12,9 @@ ghost use Rattle.ring_console.specs.FrameLines.{numbers_text, call_text, primary
 ghost use Rattle.ring_console.specs.FrameLines.{pack_text, snap_text, content_text, wrapped_text, payload_text};
 ghost use Rattle.ring_console.specs.FrameLines.{message_text, lowered_text, token_text, join_text, commit_text, frame_text};
 
-use crate::line::{LineBuffer, MAX_LINE_BYTES};
+use crate::line_buffer::{LineBuffer, MAX_LINE_BYTES};
 use ring_base::{Proc, ProcSet, RingId};
-use ring_payload::{Call, Content, Head, Pack, Part, Payload, Snap, Wrapped};
+use ring_payload::{Call, Head, Pack, Part, Payload, Snap, Wrapped, WrappedPayload};
 use ring_wire::{CommitToken, Frame, Join, Message, Requests, Token};
 use std::alloc::Allocator;
 
@@ -57,7 +57,7 @@ fn add_payload<A: Allocator + Copy>(line: &mut LineBuffer, payload: &Payload<A>)
     match payload {
         Payload::Call(call) => add_call(line, call),
         Payload::Wrapped(wrapped) => add_wrapped(line, wrapped),
-        Payload::End => line.add(b"end"),
+        Payload::End => line.append_bytes(b"end"),
         Payload::Head(head) => add_head(line, head),
         Payload::Part(part) => add_part(line, part),
         Payload::Pack(pack) => add_pack(line, pack),
@@ -80,17 +80,17 @@ fn add_wrapped<A: Allocator + Copy>(line: &mut LineBuffer, wrapped: &Wrapped<A>)
     add_content(line, &wrapped.payload);
 }
 
-fn add_content<A: Allocator + Copy>(line: &mut LineBuffer, content: &Content<A>)
+fn add_content<A: Allocator + Copy>(line: &mut LineBuffer, content: &WrappedPayload<A>)
     requires { length line.old + 140 ≤ MAX_LINE_BYTES }
     ensures text { line.new ≡ line.old ++ content_text content.now }
     ensures len { length line.new ≤ length line.old + 140 }
 {
     match content {
-        Content::Call(call) => add_call(line, call),
-        Content::Head(head) => add_head(line, head),
-        Content::Part(part) => add_part(line, part),
-        Content::Pack(pack) => add_pack(line, pack),
-        Content::Snap(snap) => add_snap(line, snap),
+        WrappedPayload::Call(call) => add_call(line, call),
+        WrappedPayload::Head(head) => add_head(line, head),
+        WrappedPayload::Part(part) => add_part(line, part),
+        WrappedPayload::Pack(pack) => add_pack(line, pack),
+        WrappedPayload::Snap(snap) => add_snap(line, snap),
     }
 }
 
@@ -105,7 +105,7 @@ fn add_sent(line: &mut LineBuffer, word: &str, ring: RingId, number: u64, sender
     add_ring(line, word, ring);
     line.add_number(" seq ", number);
     line.add_number(" from ", u64::from(sender.number()));
-    line.add(b" ");
+    line.append_bytes(b" ");
 }
 
 fn add_ring(line: &mut LineBuffer, word: &str, ring: RingId)
@@ -145,7 +145,7 @@ fn add_primary(line: &mut LineBuffer, last: Option<RingId>)
     ensures len { length line.new ≤ length line.old + 51 }
 {
     match last {
-        None => line.add(b"head last none"),
+        None => line.append_bytes(b"head last none"),
         Some(ring) => add_ring(line, "head last ", ring),
     }
 }
@@ -199,7 +199,7 @@ fn add_token(line: &mut LineBuffer, token: &Token)
     line.add_number(" seq ", token.seq);
     line.add_number(" aru ", token.aru);
     add_lowered(line, token.aru_id);
-    line.add(b" asks ");
+    line.append_bytes(b" asks ");
     add_requests(line, &token.requests);
 }
 
@@ -210,7 +210,7 @@ fn add_lowered(line: &mut LineBuffer, node: Option<Proc>)
     ensures len { length line.new ≤ length line.old + 24 }
 {
     match node {
-        None => line.add(b" id 0"),
+        None => line.append_bytes(b" id 0"),
         Some(node) => line.add_number(" id ", u64::from(node.number())),
     }
 }
@@ -222,9 +222,9 @@ fn add_join(line: &mut LineBuffer, join: &Join)
 {
     line.add_number("join ", u64::from(join.sender.number()));
     line.add_number(" number ", join.number);
-    line.add(b" procs ");
+    line.append_bytes(b" procs ");
     add_members(line, join.proc_set);
-    line.add(b" fails ");
+    line.append_bytes(b" fails ");
     add_members(line, join.fail_set);
 }
 
@@ -234,7 +234,7 @@ fn add_commit(line: &mut LineBuffer, token: &CommitToken)
     ensures len { length line.new ≤ 900 }
 {
     add_ring(line, "commit ", token.ring);
-    line.add(b" members ");
+    line.append_bytes(b" members ");
     add_members(line, token.members);
     line.add_number(" hop ", u64::from(token.hop));
     line.add_number(" entries ", token.entries.as_slice().len() as u64);
@@ -274,6 +274,6 @@ fn add_numbers<I: Iterator<Item = u64> + Drop>(line: &mut LineBuffer, numbers: I
         is_empty = false;
     }
     if is_empty {
-        line.add(b"-");
+        line.append_bytes(b"-");
     }
 }

@@ -27,10 +27,10 @@ const MAX_READ_AHEAD: usize = 8 * MAX_FRAME_BYTES;
 pub(crate) struct FrameReader<A: Allocator> {
     bytes: Vec<u8, A>,
     /// The number of bytes already taken.
-    taken: usize,
-    ghost within: { taken ≤ vec_len bytes },
+    taken_bytes: usize,
+    ghost within: { taken_bytes ≤ vec_len bytes },
     /// The index of the next frame's first byte in the input, counted from 0.
-    position: u64,
+    next_frame_offset: u64,
     state: InputState,
 }
 
@@ -58,14 +58,14 @@ impl<A: Allocator + Copy> FrameReader<A> {
     /// Errors: `Refused` with `Memory` if an allocation fails.
     pub fn new(alloc: A) -> Result<FrameReader<A>, Failure>
         ensures empty { IfOk result (λ frame_reader. frame_reader.bytes.items ≡ []) }
-        ensures open { IfOk result (λ frame_reader. (frame_reader.position ≡ 0) × (frame_reader.taken ≡ 0) × (frame_reader.state ≡ Open)) }
+        ensures open { IfOk result (λ frame_reader. (frame_reader.next_frame_offset ≡ 0) × (frame_reader.taken_bytes ≡ 0) × (frame_reader.state ≡ Open)) }
         ensures refused { IfErr result (λ failure. failure ≡ Refused Memory) }
     {
         match Vec::with_capacity(alloc, MAX_READ_AHEAD) {
             Ok(bytes) => Ok(FrameReader {
                 bytes,
-                taken: 0,
-                position: 0,
+                taken_bytes: 0,
+                next_frame_offset: 0,
                 state: InputState::Open,
             }),
             Err(_) => Err(Failure::Refused(Fault::Memory)),
@@ -89,10 +89,10 @@ impl<A: Allocator + Copy> FrameReader<A> {
     ) -> Result<(), Failure>
         requires { IsEndRight self.old (R.remaining input.old) }
         ensures next { OnOk result (IsNext (left_of self.old (R.remaining input.old))
-            (left_of self.new (R.remaining input.new)) self.old.position self.new.position next.new) }
+            (left_of self.new (R.remaining input.new)) self.old.next_frame_offset self.new.next_frame_offset next.new) }
         ensures ended { OnOk result (IsEndRight self.new (R.remaining input.new)) }
         ensures stopped { IfErr result (IsStop A (left_of self.old (R.remaining input.old)) (R.remaining input.new)
-            self.old.position self.new.state) }
+            self.old.next_frame_offset self.new.state) }
     {
         self.read_enough(input)?;
         self.take_frame(alloc, next)
@@ -100,24 +100,24 @@ impl<A: Allocator + Copy> FrameReader<A> {
 
     /// Decodes the frame at the front of the unread bytes into `next`.
     fn take_frame(&mut self, alloc: A, next: &mut Option<Frame<A>>) -> Result<(), Failure>
-        ensures next { OnOk result (IsNext (Some (unread_bytes self.old)) (Some (unread_bytes self.new)) self.old.position self.new.position next.new) }
+        ensures next { OnOk result (IsNext (Some (unread_bytes self.old)) (Some (unread_bytes self.new)) self.old.next_frame_offset self.new.next_frame_offset next.new) }
         ensures ended { OnOk result (next.new ≡ None → self.old.state ≡ Ended) }
         ensures state { self.new.state ≡ self.old.state }
-        ensures stopped { IfErr result (IsStop A (Some (unread_bytes self.old)) (Some []) self.old.position self.old.state) }
+        ensures stopped { IfErr result (IsStop A (Some (unread_bytes self.old)) (Some []) self.old.next_frame_offset self.old.state) }
     {
-        let rest = &self.bytes[self.taken..];
+        let rest = &self.bytes[self.taken_bytes..];
         if rest.is_empty() && self.state == InputState::Ended {
             *next = None;
             return Ok(());
         }
-        match Frame::get_into(alloc, rest, next) {
+        match Frame::decode_first_frame_into(alloc, rest, next) {
             Ok(length) => {
-                self.taken += length;
-                self.position = self.position.saturating_add(length as u64);
+                self.taken_bytes += length;
+                self.next_frame_offset = self.next_frame_offset.saturating_add(length as u64);
                 Ok(())
             }
             Err(Fault::BadFrame) if self.state == InputState::Failed => Err(Failure::BadFrame(0)),
-            Err(Fault::BadFrame) => Err(Failure::BadFrame(self.position)),
+            Err(Fault::BadFrame) => Err(Failure::BadFrame(self.next_frame_offset)),
             Err(fault) => Err(Failure::Refused(fault)),
         }
     }
@@ -128,10 +128,10 @@ impl<A: Allocator + Copy> FrameReader<A> {
         ensures kept { OnOk result (Keeps (left_of self.old (R.remaining input.old)) (left_of self.new (R.remaining input.new))) }
         ensures ended { OnOk result (IsEndRight self.new (R.remaining input.new)) }
         ensures enough { OnOk result (self.new.state ≡ Open → max_frame_bytes ≤ length (unread_bytes self.new)) }
-        ensures position { self.new.position ≡ self.old.position }
+        ensures position { self.new.next_frame_offset ≡ self.old.next_frame_offset }
         ensures refused { IfErr result (λ failure. failure ≡ Refused Memory) }
     {
-        if self.state == InputState::Open && self.bytes.len() - self.taken < MAX_FRAME_BYTES {
+        if self.state == InputState::Open && self.bytes.len() - self.taken_bytes < MAX_FRAME_BYTES {
             self.read_ahead(input)?;
         }
         Ok(())
@@ -143,10 +143,10 @@ impl<A: Allocator + Copy> FrameReader<A> {
         ensures kept { OnOk result (Keeps (left_of self.old (R.remaining input.old)) (left_of self.new (R.remaining input.new))) }
         ensures ended { OnOk result (IsEndRight self.new (R.remaining input.new)) }
         ensures enough { OnOk result (self.new.state ≡ Open → max_frame_bytes ≤ length (unread_bytes self.new)) }
-        ensures position { self.new.position ≡ self.old.position }
+        ensures position { self.new.next_frame_offset ≡ self.old.next_frame_offset }
         ensures refused { IfErr result (λ failure. failure ≡ Refused Memory) }
     {
-        let taken = mem::replace(&mut self.taken, 0);
+        let taken = mem::replace(&mut self.taken_bytes, 0);
         let _ = self.bytes.drain(..taken);
         for _ in 0..u64::MAX {
             if self.state != InputState::Open || self.bytes.len() >= MAX_READ_AHEAD {
@@ -164,8 +164,8 @@ impl<A: Allocator + Copy> FrameReader<A> {
         requires room { vec_len self.old.bytes < MAX_READ_AHEAD }
         ensures kept { OnOk result (Keeps (left_of self.old (R.remaining input.old)) (left_of self.new (R.remaining input.new))) }
         ensures ended { OnOk result (IsEndRight self.new (R.remaining input.new)) }
-        ensures taken { self.new.taken ≡ self.old.taken }
-        ensures position { self.new.position ≡ self.old.position }
+        ensures taken { self.new.taken_bytes ≡ self.old.taken_bytes }
+        ensures position { self.new.next_frame_offset ≡ self.old.next_frame_offset }
         ensures refused { IfErr result (λ failure. failure ≡ Refused Memory) }
     {
         let mut room = [0u8; MAX_FRAME_BYTES];

@@ -7,20 +7,20 @@
 
 mod frame_lines;
 mod frame_reader;
-mod line;
+mod line_buffer;
 mod listing;
-mod printed;
-mod run;
-mod running;
+mod printed_lines;
+mod script_command;
+mod script_run;
 
 pub use listing::frames;
 pub use ring_checker::is_linearization;
-pub use ring_failure::{Failure, report};
+pub use ring_failure::{Failure, report_failure};
 pub use ring_script::{
     EmptyVocabulary, Groups, NumberedLine, Script, ScriptFault, ScriptLine, ShelfVocabulary,
     Vocabulary,
 };
 pub use ring_things::StandardObjects;
 pub use ring_world::{Event, OpenCopy, Told, World};
-pub use run::ScriptRun;
-pub use running::{is_legal, script, script_check, script_of};
+pub use script_command::{is_legal, script, script_check, script_of};
+pub use script_run::ScriptRun;

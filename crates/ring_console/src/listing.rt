@@ -12,9 +12,9 @@ ghost use Rattle.ring_console.specs.declared.frame_reader.InputState.TheVariants
 
 use crate::frame_lines::add_frame;
 use crate::frame_reader::FrameReader;
-use crate::line::LineBuffer;
+use crate::line_buffer::LineBuffer;
 use ring_base::Fault;
-use ring_failure::{BorrowedWriter, Failure, exit_status, report};
+use ring_failure::{BorrowedWriter, Failure, exit_status, report_failure};
 use ring_wire::Frame;
 use std::alloc::Allocator;
 use std::io::{BufWriter, Read, Write};
@@ -54,7 +54,7 @@ pub fn frames<A: Allocator + Copy, R: Read, O: Write, E: Write>(
             let _ = &*writer;
             status
         }
-        Err(_) => report(err, Failure::Refused(Fault::Memory)),
+        Err(_) => report_failure(err, Failure::Refused(Fault::Memory)),
     }
 }
 
@@ -93,7 +93,7 @@ fn list_with_reader<A: Allocator + Copy, R: Read, W: Write>(
     out: &mut W,
 ) -> Result<(), Failure>
     requires empty { frame_reader.old.bytes.items ≡ [] }
-    requires open { (frame_reader.old.position ≡ 0) × (frame_reader.old.taken ≡ 0) × (frame_reader.old.state ≡ Open) }
+    requires open { (frame_reader.old.next_frame_offset ≡ 0) × (frame_reader.old.taken_bytes ≡ 0) × (frame_reader.old.state ≡ Open) }
     requires begun { line.old ≡ [] }
     ensures frame_lines { OnOk result (IsListed A (R.remaining input.old) (R.remaining input.new)
         (W.contents out.old) (W.contents out.new)) }

@@ -41,7 +41,7 @@ pub fn is_explained<A: Allocator + Copy + Drop>(
     let (script, mut run) = pair_result(script, made)?;
     let mut out = Vec::<u8>::new(alloc);
     let mut output: &mut dyn Write = &mut out;
-    let _ = run.take(script, &mut output);
+    let _ = run.run_and_print_lines(script, &mut output);
     let explains = match order_explains(heap, &run) {
         Err(Fault::Memory) => order_explains(heap, &run),
         explains => explains,

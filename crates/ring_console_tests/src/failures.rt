@@ -2,7 +2,7 @@
 //! Rules: Refusals 1
 
 use ring_base::Fault;
-use ring_console::{Failure, report};
+use ring_console::{Failure, report_failure};
 
 /// Each refusal, and its line.
 const TOLD: [(Fault, &str); 15] = [
@@ -27,7 +27,7 @@ const TOLD: [(Fault, &str); 15] = [
 fn each_refusal_is_told_by_its_number_and_its_text(rt: HostRuntime) {
     for (fault, told) in TOLD {
         let mut err = Vec::new(rt.alloc());
-        let status = report(&mut err, Failure::Refused(fault));
+        let status = report_failure(&mut err, Failure::Refused(fault));
         assert!(rt; status == 1 && err.as_slice() == told.as_bytes(), "{told}");
     }
 }

@@ -55,7 +55,7 @@ fn requests_of(alloc: Global, count: usize, err: &str) -> Result<Option<(u64, us
     joins.push(0)?;
     let heap = RefusingHeap::new(alloc, u64::MAX);
     let printed = listing_of(&heap, alloc, &mut joins.as_slice());
-    let told = (heap.requests(), printed.out.len());
+    let told = (heap.request_count(), printed.out.len());
     Ok(printed.is_refused(err, 1).then_some(told))
 }
 

@@ -53,7 +53,7 @@ const PARTS: u64 = 6;
 fn refuse_each(rt: &impl Abort, alloc: Global, part: u64) {
     let heap = RefusingHeap::new(alloc, u64::MAX);
     let printed = printed_over(&heap, alloc);
-    let requests = heap.requests();
+    let requests = heap.request_count();
     assert!(rt; requests > 200, "{requests}");
     for passed in 0..requests {
         if passed % PARTS == part {

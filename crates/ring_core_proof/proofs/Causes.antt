@@ -14,19 +14,19 @@ use Rattle.ring_core_spec.specs.Joins.{JoinEffect, Ignored, Agrees, Merges}
 use Rattle.ring_core_spec.specs.Commits.{is_at}
 use Rattle.ring_core_spec.specs.declared.input.Input.{Input}
 use Rattle.ring_core_spec.specs.declared.input.Input.TheVariants.{Frame as FrameInput, Timeout, Send}
-use Rattle.ring_base.specs.declared.kind.Kind.{Kind}
-use Rattle.ring_base.specs.declared.kind.Kind.TheVariants.{Retransmit, Join as JoinTime, Consensus, Loss}
+use Rattle.ring_base.specs.declared.timeout_kind.Kind.{Kind}
+use Rattle.ring_base.specs.declared.timeout_kind.Kind.TheVariants.{Retransmit, Join as JoinTime, Consensus, Loss}
 use Rattle.ring_base.specs.declared.state.State.{State}
 use Rattle.ring_base.specs.declared.state.State.TheVariants.{Gather, Commit, Recovery, Operational, Stopped}
 use Rattle.ring_core_spec.specs.State.{Core}
 use Rattle.ring_core_spec.specs.Naming.{is_named}
 use Rattle.ring_core_spec.specs.Visiting.{accepts}
 use Rattle.ring_core_spec.specs.Joining.{gather_entered, join_effect_at, is_gather_trigger}
-use Rattle.ring_core_spec.specs.Handing.{takes_first_round, takes_second_round, takes_start}
+use Rattle.ring_core_spec.specs.CommitSteps.{takes_first_round, takes_second_round, takes_start}
 use Rattle.ring_core_spec.specs.Deciding.{Ignore, Enqueue, Take, Visit, Fill, Learn, is_taken, decide_message, decide_token}
 use Rattle.ring_core_spec.specs.Deciding.{transition_in_gather, transition_into_gather, decide_join_elsewhere, decide_join, decide_round}
 use Rattle.ring_core_spec.specs.Deciding.{decide_commit, decide_frame, decide_if_named, decide_time, decide_payload, decide}
-use Rattle.ring_core_proof.specs.LawWords.{IsAway, IsInputOf}
+use Rattle.ring_core_proof.specs.LawConditions.{IsAway, IsInputOf}
 
 by_message : {A : Type 0} → (c : Core A) (x : Message A) → IsInputOf c (FrameInput (MessageFrame x)) (decide_message c x)
 by_message c x = cond_both (is_taken c x) (Take x) Ignore (IsInputOf c (FrameInput (MessageFrame x))) (λ e. refl) (λ e. tt)

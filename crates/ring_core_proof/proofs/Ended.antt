@@ -27,9 +27,9 @@ use Rattle.ring_core_spec.specs.Transitions.{old_ring_messages, message_taken}
 use Rattle.ring_core_spec.specs.Stepping.{after_inputs}
 use Rattle.ring_core_spec.proofs.Tokens.{numbered-ring}
 use Rattle.ring_core_proof.specs.FactWords.{IsIn}
-use Rattle.ring_core_proof.specs.LawWords.{EndsWrapping, HasEnded}
+use Rattle.ring_core_proof.specs.LawConditions.{EndsWrapping, HasEnded}
 pub use Rattle.ring_core_proof.specs.WindowBounds.{HasRingOrder, HasOrderedRings}
-use Rattle.ring_core_proof.specs.Moves.{Move, Idles, Enters, Learns, Visits, Takes, Installs, turn_with, moved, MayMove, is_seen, IsWrapping, AreLast, AreWraps}
+use Rattle.ring_core_proof.specs.Moves.{Move, Idles, Enters, Learns, Visits, Takes, Installs, turn_with, core_after_move, MayMove, is_seen, IsWrapping, AreLast, AreWraps}
 use Rattle.ring_core_proof.proofs.InLists.{in-left, in-right, in-parts, in-each, each-in, in-reverse, some-each}
 use Rattle.ring_core_proof.proofs.WrapsAndEnd.{seen_by, seen_of}
 use Rattle.ring_core_proof.proofs.KeptByMoves.{IsKeptByMoves, always}
@@ -61,7 +61,7 @@ turned_stands s running installed v turns (inl e) h =
 turned_stands s running installed v turns (inr e) h =
     subst (λ s. HasRingOrder s running installed (v ∷ turns)) (sym e) (subst (λ s. HasRingOrder s running installed turns) e h)
 
-pub moved_placed : {A : Type 0} → (received : Frame A → Type 0) (c : Core A) (m : Move A) → MayMove received c m → HasOrderedRings c → HasOrderedRings (moved c m)
+pub moved_placed : {A : Type 0} → (received : Frame A → Type 0) (c : Core A) (m : Move A) → MayMove received c m → HasOrderedRings c → HasOrderedRings (core_after_move c m)
 moved_placed received c (Idles state gathering last_sent queue sends) h p =
     record { stands = left_stands c.state state c.running c.installed c.turns h.leaves p.stands; turns = p.turns }
 moved_placed {A} received c (Enters k) h p =
@@ -222,7 +222,7 @@ pub record IsOver {A : Type 0} (c : Core A) : Type 0 where
   pub placed : HasOrderedRings c
   pub ended : HasEnded c
 
-moved_ended : {A : Type 0} → (received : Frame A → Type 0) (c : Core A) (m : Move A) → MayMove received c m → IsOver c → HasEnded (moved c m)
+moved_ended : {A : Type 0} → (received : Frame A → Type 0) (c : Core A) (m : Move A) → MayMove received c m → IsOver c → HasEnded (core_after_move c m)
 moved_ended received c (Idles state gathering last_sent queue sends) h o s =
     elim (h.leaves) [
       | inl e ↦ o.ended (sym e ∙ s)
@@ -232,12 +232,12 @@ moved_ended received c (Idles state gathering last_sent queue sends) h o s =
 moved_ended received c (Enters k) h o s = absurd (let x : ⊥ = cc in x)
 moved_ended {A} received c (Learns k) h o s =
     let older = (subst (λ s. HasRingOrder s c.running c.installed c.turns) h.state o.placed.stands).1 in
-    each-weaker (λ (v : TokenVisit A). v.received.ring.seq < floor c) (EndsWrapping (moved c (Learns k)))
+    each-weaker (λ (v : TokenVisit A). v.received.ring.seq < floor c) (EndsWrapping (core_after_move c (Learns k)))
     (λ v l e i. (let q : v.received.ring.seq ≡ floor c = ap (λ (r : RingId). r.seq) e in absurd (omega arith))) c.turns older
 moved_ended {A} received c (Visits t fresh requests again queue) h o s =
     let below : c.installed.ring.seq < floor c = subst (λ s. HasRingOrder s c.running c.installed c.turns) s o.placed.stands in (
       λ e i. end_last c below t fresh h.ring (h.wraps s) i,
-      each-weaker (EndsWrapping c) (EndsWrapping (moved c (Visits t fresh requests again queue)))
+      each-weaker (EndsWrapping c) (EndsWrapping (core_after_move c (Visits t fresh requests again queue)))
           (λ v f e i. visit_after c below t fresh h.ring [] (λ p j. absurd j) (f e i)) c.turns (o.ended s),
     )
 moved_ended {A} received c (Takes x) h o s =

@@ -14,15 +14,15 @@ use Rattle.ring_core_spec.specs.declared.input.Input.{Input}
 use Rattle.ring_core_spec.specs.declared.out.Out.{Out}
 use Rattle.ring_core_spec.specs.State.{Core, TransitionResult, opening}
 use Rattle.ring_core_spec.specs.Views.{plan}
-use Rattle.ring_core_spec.specs.Visiting.{accepts, room_at, offers, new_payloads, new_messages, held_after, turn_of}
+use Rattle.ring_core_spec.specs.Visiting.{accepts, room_at, payloads_to_send, new_payloads, new_messages, held_after, turn_of}
 use Rattle.ring_core_spec.specs.Joining.{proposes}
-use Rattle.ring_core_spec.specs.Giving.{settle}
+use Rattle.ring_core_spec.specs.Giving.{with_installation_if}
 use Rattle.ring_core_spec.specs.Deciding.{Transition, Ignore, Enqueue, Repeat, Announce, Invite, GiveUp, EnterGather, Agree, MergeJoin}
 use Rattle.ring_core_spec.specs.Deciding.{EnterGatherAndAgree, EnterGatherAndMergeJoin, Take, Visit, Fill, Learn, decide}
 use Rattle.ring_core_spec.specs.Transitions.{old_ring_messages, apply_transition, may_propose_after, with_proposal_if}
 use Rattle.ring_core_spec.specs.Stepping.{ring_step, after_inputs}
 use Rattle.ring_core_spec.proofs.States.{accepted_ring}
-use Rattle.ring_core_proof.specs.LawWords.{HasPassed, AreOfQueue, AreOfRecovery, IsFreshOf, AreFreshOf}
+use Rattle.ring_core_proof.specs.LawConditions.{HasPassed, AreOfQueue, AreOfRecovery, IsFreshOf, AreFreshOf}
 use Rattle.ring_core_proof.proofs.Guards.{guarded}
 use Rattle.ring_core_proof.proofs.StepsAreMoves.{fresh_few, queue_each}
 use Rattle.ring_core_proof.proofs.KeptByMoves.{IsStepKept, after_all}
@@ -61,7 +61,7 @@ still_fresh {A} me xs held turns h =
 -- Visits
 
 offered : {A : Type 0} → (s : State) (c : Core A) (xs : List (Message A)) (count : ℕ) → AreQueued c.queue →
-    AreOfQueue (offers s c count) ⊎ AreOfRecovery c.me c.running.ring (xs ++ c.held) (offers s c count)
+    AreOfQueue (payloads_to_send s c count) ⊎ AreOfRecovery c.me c.running.ring (xs ++ c.held) (payloads_to_send s c count)
 offered Operational c xs count q = inl (record { count = count; queue = c.queue; queued = q; made = refl })
 offered Recovery c xs count q = inr (record { count = count; plan = plan c; later = xs; before = c.held; grown = refl; made = refl })
 offered Gather c xs count q = inl (record { count = 0; queue = []; queued = tt; made = refl })
@@ -107,7 +107,7 @@ proposed_made : {A : Type 0} → (b : Bool) (did : TransitionResult A) → Made 
 proposed_made false did m = m
 proposed_made true did m = m
 
-settled_made : {A : Type 0} → (b : Bool) (c : Core A) (outs : List (Out A)) → Made c → Made (settle b c outs).core
+settled_made : {A : Type 0} → (b : Bool) (c : Core A) (outs : List (Out A)) → Made c → Made (with_installation_if b c outs).core
 settled_made false c outs m = m
 settled_made true c outs m = m
 

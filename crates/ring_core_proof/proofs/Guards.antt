@@ -14,20 +14,20 @@ use Rattle.ring_core_spec.specs.Joins.{JoinEffect, Ignored, Agrees, Merges}
 use Rattle.ring_core_spec.specs.Commits.{receiver, is_at}
 use Rattle.ring_core_spec.specs.declared.input.Input.{Input}
 use Rattle.ring_core_spec.specs.declared.input.Input.TheVariants.{Frame as FrameInput, Timeout, Send}
-use Rattle.ring_base.specs.declared.kind.Kind.{Kind}
-use Rattle.ring_base.specs.declared.kind.Kind.TheVariants.{Retransmit, Join as JoinTime, Consensus, Loss}
+use Rattle.ring_base.specs.declared.timeout_kind.Kind.{Kind}
+use Rattle.ring_base.specs.declared.timeout_kind.Kind.TheVariants.{Retransmit, Join as JoinTime, Consensus, Loss}
 use Rattle.ring_base.specs.declared.state.State.{State}
 use Rattle.ring_base.specs.declared.state.State.TheVariants.{Gather, Commit, Recovery, Operational, Stopped}
 use Rattle.ring_core_spec.specs.State.{Core}
 use Rattle.ring_core_spec.specs.Naming.{is_named}
 use Rattle.ring_core_spec.specs.Visiting.{accepts}
 use Rattle.ring_core_spec.specs.Joining.{gather_entered, join_effect_at, is_gather_trigger}
-use Rattle.ring_core_spec.specs.Handing.{takes_first_round, takes_second_round, takes_start}
+use Rattle.ring_core_spec.specs.CommitSteps.{takes_first_round, takes_second_round, takes_start}
 use Rattle.ring_core_spec.specs.Deciding.{Ignore, Enqueue, Take, Visit, Fill, Learn, is_taken, decide_message, decide_token}
 use Rattle.ring_core_spec.specs.Deciding.{transition_in_gather, transition_into_gather, decide_join_elsewhere, decide_join, decide_round}
-use Rattle.ring_core_spec.specs.Deciding.{decide_commit, decide_frame, decide_if_named, decide_time, decide_user}
+use Rattle.ring_core_spec.specs.Deciding.{decide_commit, decide_frame, decide_if_named, decide_time, decide_in_operational}
 use Rattle.ring_core_spec.specs.Deciding.{decide_payload, decide}
-use Rattle.ring_core_proof.specs.LawWords.{IsAway, HasPassed, TakesCommit}
+use Rattle.ring_core_proof.specs.LawConditions.{IsAway, HasPassed, TakesCommit}
 
 in_message : {A : Type 0} → (c : Core A) (x : Message A) → HasPassed c (decide_message c x)
 in_message c x = cond_both (is_taken c x) (Take x) Ignore (HasPassed c) (λ e. e) (λ e. tt)
@@ -100,7 +100,7 @@ in_time c Recovery Loss h = λ e. (let q : Recovery ≡ Stopped = cc in cc)
 in_time c Recovery JoinTime h = tt
 in_time c Recovery Consensus h = tt
 
-in_user : {A : Type 0} → (c : Core A) (payload : Payload A) → c.state ≡ Operational → HasPassed c (decide_user payload)
+in_user : {A : Type 0} → (c : Core A) (payload : Payload A) → c.state ≡ Operational → HasPassed c (decide_in_operational payload)
 in_user c payload h = cond_both (is_queued payload) (Enqueue payload) Ignore (HasPassed c) (λ e. (h, e)) (λ e. tt)
 
 in_payload : {A : Type 0} → (c : Core A) (s : State) (payload : Payload A) → c.state ≡ s → HasPassed c (decide_payload s payload)

@@ -8,25 +8,25 @@ use Rattle.ring_core_spec.specs.declared.input.Input.{Input}
 use Rattle.ring_core_spec.specs.declared.input.Input.TheVariants.{Frame as FrameInput, Timeout as TimeInput, Send as SendInput}
 use Rattle.ring_core_spec.specs.declared.out.Out.{Out}
 use Rattle.ring_core_spec.specs.State.{Core, halted, frame_at}
-use Rattle.ring_core_spec.specs.Giving.{may_install, settle}
+use Rattle.ring_core_spec.specs.Giving.{may_install, with_installation_if}
 use Rattle.ring_core_spec.specs.Stepping.{ring_step, after_inputs}
 use Rattle.ring_core_proof.specs.declared.event.RingEvent.{RingEvent}
 use Rattle.ring_core_proof.specs.declared.event.RingEvent.TheVariants.{Send, Deliver, Timeout, Stop}
-use Rattle.ring_core_proof.specs.Worlds.{Transmission, World, put, is_node, stepped_if, stopped_if, handed_if, handed, happens, run}
-use Rattle.ring_core_proof.specs.Moves.{Move, Idles, Installs, moved, MayIdle, MayMove, after_moves, MayAll, MayInstall}
+use Rattle.ring_core_proof.specs.Worlds.{Transmission, World, with_core, is_node, stepped_if, stopped_if, handed_if, handed, world_after_event, run}
+use Rattle.ring_core_proof.specs.Moves.{Move, Idles, Installs, core_after_move, MayIdle, MayMove, after_moves, MayAll, MayInstall}
 use Rattle.ring_core_proof.proofs.StepsAreMoves.{step_moves}
 
 -- each move keeps it, whatever frames arrived
 pub record IsKeptByMoves {A : Type 0} (P : Core A → Type 0) : Type 1 where
-  pub moves : (received : Frame A → Type 0) (c : Core A) (m : Move A) → MayMove received c m → P c → P (moved c m)
+  pub moves : (received : Frame A → Type 0) (c : Core A) (m : Move A) → MayMove received c m → P c → P (core_after_move c m)
 
 kept_all : {A : Type 0} → (P : Core A → Type 0) → IsKeptByMoves P → (received : Frame A → Type 0) (c : Core A) (ms : List (Move A)) → MayAll received c ms → P c →
     P (after_moves c ms)
 kept_all P k received c [] h p = p
-kept_all P k received c (m ∷ ms) h p = kept_all P k received (moved c m) ms h.1 (k.moves received c m h.0 p)
+kept_all P k received c (m ∷ ms) h p = kept_all P k received (core_after_move c m) ms h.1 (k.moves received c m h.0 p)
 
 kept_settled : {A : Type 0} → (P : Core A → Type 0) → IsKeptByMoves P → (b : Bool) (c : Core A) (outs : List (Out A)) → (b ≡ true → MayInstall c) → P c →
-    P (settle b c outs).core
+    P (with_installation_if b c outs).core
 kept_settled P k false c outs h p = p
 kept_settled P k true c outs h p = k.moves (λ frame. Unit {0}) c Installs (h refl) p
 
@@ -63,7 +63,7 @@ always P k c inputs p = after_all P (by_moves P k) c inputs p
 abbrev pub Everywhere : {A : Type 0} → (Core A → Type 0) → World A → Type 0
 Everywhere P w = (i : ℕ) → P (w.cores i)
 
-kept_put : {A : Type 0} → (P : Core A → Type 0) (cores : ℕ → Core A) (i : ℕ) (c : Core A) → ((j : ℕ) → P (cores j)) → P c → (j : ℕ) → P (put cores i c j)
+kept_put : {A : Type 0} → (P : Core A → Type 0) (cores : ℕ → Core A) (i : ℕ) (c : Core A) → ((j : ℕ) → P (cores j)) → P c → (j : ℕ) → P (with_core cores i c j)
 kept_put P cores i c h p j = cond_both (j == i) c (cores j) P (λ e. p) (λ e. h j)
 
 kept_stepped : {A : Type 0} → (P : Core A → Type 0) → IsStepKept P → (b : Bool) (w : World A) (i : ℕ) (input : Input A) → Everywhere P w →
@@ -85,7 +85,7 @@ kept_handed : {A : Type 0} → (P : Core A → Type 0) → IsStepKept P → (w :
 kept_handed P k w i None h = h
 kept_handed P k w i (Some f) h = kept_if P k (has f.to i) w i f.frame h
 
-kept_event : {A : Type 0} → (P : Core A → Type 0) → IsStepKept P → (w : World A) (e : RingEvent A) → Everywhere P w → Everywhere P (happens w e)
+kept_event : {A : Type 0} → (P : Core A → Type 0) → IsStepKept P → (w : World A) (e : RingEvent A) → Everywhere P w → Everywhere P (world_after_event w e)
 kept_event P k w (Send i payload) h = kept_stepped P k (is_node w i) w i (SendInput payload) h
 kept_event P k w (Deliver i n) h = kept_handed P k w i (frame_at w.frames n) h
 kept_event P k w (Timeout i kind) h = kept_stepped P k (is_node w i) w i (TimeInput kind) h
@@ -93,7 +93,7 @@ kept_event P k w (Stop i) h = kept_stopped P k (is_node w i) w i h
 
 pub kept_run : {A : Type 0} → (P : Core A → Type 0) → IsStepKept P → (w : World A) (events : List (RingEvent A)) → Everywhere P w → Everywhere P (run w events)
 kept_run P k w [] h = h
-kept_run P k w (e ∷ events) h = kept_run P k (happens w e) events (kept_event P k w e h)
+kept_run P k w (e ∷ events) h = kept_run P k (world_after_event w e) events (kept_event P k w e h)
 
 pub everywhere : {A : Type 0} → (P : Core A → Type 0) → IsKeptByMoves P → (w : World A) (events : List (RingEvent A)) → Everywhere P w → Everywhere P (run w events)
 everywhere P k w events h = kept_run P (by_moves P k) w events h

@@ -3,11 +3,11 @@ use Rattle.std.proofs.Common.{◌≡◌, ℕ, ◌+◌, ◌≤◌, true, List}
 use Rattle.ring_base.specs.Numbers.{window_size}
 use Rattle.ring_base.specs.declared.ring_id.RingId.{RingId}
 use Rattle.ring_core_spec.specs.Windows.{holds}
-use Rattle.ring_core_spec.specs.Joins.{AllSaySame}
+use Rattle.ring_core_spec.specs.Joins.{AllHaveOwnSets}
 use Rattle.ring_core_spec.specs.Views.{front, mark}
 use Rattle.ring_core_proof.specs.declared.event.RingEvent.{RingEvent}
 use Rattle.ring_core_proof.specs.Worlds.{run, unformed}
-use Rattle.ring_core_proof.specs.LawWords.{AreTurnsOf, AreFreshOf, HasEnded}
+use Rattle.ring_core_proof.specs.LawConditions.{AreTurnsOf, AreFreshOf, HasEnded}
 use Rattle.ring_core_proof.proofs.WithinWindow.{IsCoreInWindow, fitting, mark_below, held_below}
 use Rattle.ring_core_proof.proofs.Agrees.{SayingSame, saying_same}
 use Rattle.ring_core_proof.proofs.VisitsByRules.{Turned, turned}
@@ -35,7 +35,7 @@ pub all_fresh : {A : Type 0} → (n i : ℕ) (events : List (RingEvent A)) →
     AreFreshOf ((run (unformed n) events).cores i).me ((run (unformed n) events).cores i).held ((run (unformed n) events).cores i).turns
 all_fresh n i events = (kept_run Made making (unformed n) events (λ i. opening_made n i) i).fresh
 
-pub all_same_sets : {A : Type 0} → (n i : ℕ) (events : List (RingEvent A)) → AllSaySame ((run (unformed n) events).cores i).gathering
+pub all_same_sets : {A : Type 0} → (n i : ℕ) (events : List (RingEvent A)) → AllHaveOwnSets ((run (unformed n) events).cores i).gathering
 all_same_sets n i events = everywhere SayingSame saying_same (unformed n) events (λ i. tt) i
 
 pub all_ended : {A : Type 0} → (n i : ℕ) (events : List (RingEvent A)) → HasEnded ((run (unformed n) events).cores i)

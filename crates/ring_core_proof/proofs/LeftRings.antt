@@ -22,14 +22,14 @@ use Rattle.ring_wire.specs.declared.token.Token.{Token}
 use Rattle.ring_core_spec.specs.Windows.{held_bits, front_of}
 use Rattle.ring_core_spec.proofs.Windows.{front_of_ring, held_bits_of_ring}
 use Rattle.ring_base.proofs.SameRing.{other_ring}
-use Rattle.ring_core_spec.specs.Tokens.{TokenVisit, Raise, mark_by, numbered}
+use Rattle.ring_core_spec.specs.Tokens.{TokenVisit, MarkRaise, mark_from_arus, numbered}
 use Rattle.ring_core_spec.specs.Commits.{Configuration}
 use Rattle.ring_core_spec.specs.declared.input.Input.{Input}
 use Rattle.ring_core_spec.specs.State.{Core, Report, floor}
 use Rattle.ring_core_spec.specs.Views.{front, mark, own_entry}
 use Rattle.ring_core_spec.specs.Transitions.{old_ring_messages}
 use Rattle.ring_core_spec.specs.Stepping.{after_inputs}
-use Rattle.ring_core_proof.specs.Moves.{Move, Idles, Enters, Learns, Visits, Takes, Installs, turn_with, moved, MayMove}
+use Rattle.ring_core_proof.specs.Moves.{Move, Idles, Enters, Learns, Visits, Takes, Installs, turn_with, core_after_move, MayMove}
 use Rattle.ring_core_proof.proofs.KeptByMoves.{always}
 use Rattle.ring_core_proof.specs.KnowledgeOfRings.{RingKnowledge, knowledge_of, HasLeft, IsBetweenRings, KeepsKnowledge, KeepsReport}
 use Rattle.ring_core_proof.proofs.OwnFacts.{visited_of, gives_of}
@@ -54,7 +54,7 @@ known_same {A} K L h t r p k =
     let a : K ≡ record { held = L.held; turns = K.turns; raises = K.raises; reports = K.reports; plans = K.plans } =
     ap (λ (xs : List (Message A)). record { held = xs; turns = K.turns; raises = K.raises; reports = K.reports; plans = K.plans }) h in
     let b = ap (λ (xs : List (TokenVisit A)). record { held = L.held; turns = xs; raises = K.raises; reports = K.reports; plans = K.plans }) t in
-    let c = ap (λ (xs : List Raise). record { held = L.held; turns = L.turns; raises = xs; reports = K.reports; plans = K.plans }) r in
+    let c = ap (λ (xs : List MarkRaise). record { held = L.held; turns = L.turns; raises = xs; reports = K.reports; plans = K.plans }) r in
     let d = ap (λ (xs : List Report). record { held = L.held; turns = L.turns; raises = L.raises; reports = xs; plans = K.plans }) p in
     let e = ap (λ (xs : List CommitToken). record { held = L.held; turns = L.turns; raises = L.raises; reports = L.reports; plans = xs }) k in
     a ∙ b ∙ c ∙ d ∙ e
@@ -65,32 +65,32 @@ known_same {A} K L h t r p k =
 abbrev Keeps : {A : Type 0} → RingId → Core A → Core A → Type 0
 Keeps ring c d = knowledge_of ring d ≡ knowledge_of ring c
 
-keeps_entered : {A : Type 0} → (ring : RingId) (c : Core A) (k : CommitToken) → (k.ring ≡ ring → ⊥) → Keeps ring c (moved c (Enters k))
+keeps_entered : {A : Type 0} → (ring : RingId) (c : Core A) (k : CommitToken) → (k.ring ≡ ring → ⊥) → Keeps ring c (core_after_move c (Enters k))
 keeps_entered {A} ring c k n =
-    known_same (knowledge_of ring (moved c (Enters k))) (knowledge_of ring c) refl refl refl
+    known_same (knowledge_of ring (core_after_move c (Enters k))) (knowledge_of ring c) refl refl refl
     (of_others (λ (x : Report). x.ring) ring (record { ring = k.ring; entry = own_entry c } ∷ []) c.reports (n, tt)) refl
 
 keeps_learned : {A : Type 0} → (ring : RingId) (c : Core A) (k : CommitToken) → (k.ring ≡ ring → ⊥) → (c.installed.ring ≡ ring → ⊥) →
-    Keeps ring c (moved c (Learns k))
+    Keeps ring c (core_after_move c (Learns k))
 keeps_learned {A} ring c k n old =
-    known_same (knowledge_of ring (moved c (Learns k))) (knowledge_of ring c) refl refl
-    (of_others (λ (x : Raise). x.ring) ring (record { ring = c.installed.ring; mark = _ } ∷ []) c.raises (old, tt)) refl
+    known_same (knowledge_of ring (core_after_move c (Learns k))) (knowledge_of ring c) refl refl
+    (of_others (λ (x : MarkRaise). x.ring) ring (record { ring = c.installed.ring; mark = _ } ∷ []) c.raises (old, tt)) refl
     (of_others (λ (l : CommitToken). l.ring) ring (k ∷ []) c.plans (n, tt))
 
 keeps_visited : {A : Type 0} →
     (ring : RingId) (c : Core A) (t : Token) (fresh : List (Payload A)) (requests : List ℕ) (again : List (Message A)) (queue : List (Payload A)) →
-    (t.ring ≡ ring → ⊥) → Keeps ring c (moved c (Visits t fresh requests again queue))
+    (t.ring ≡ ring → ⊥) → Keeps ring c (core_after_move c (Visits t fresh requests again queue))
 keeps_visited {A} ring c t fresh requests again queue n =
     let new = reverse (numbered t.ring c.me t.seq fresh) in
-    known_same (knowledge_of ring (moved c (Visits t fresh requests again queue))) (knowledge_of ring c)
+    known_same (knowledge_of ring (core_after_move c (Visits t fresh requests again queue))) (knowledge_of ring c)
     (of_others (λ (x : Message A). x.ring) ring new c.held (of_another t.ring ring new n (visited_of t.ring c.me t.seq fresh)))
     (of_others (λ (v : TokenVisit A). v.received.ring) ring (turn_with c t fresh requests ∷ []) c.turns (n, tt)) refl refl refl
 
 keeps_took : {A : Type 0} → (ring : RingId) (c : Core A) (x : Message A) → (x.ring ≡ ring → ⊥) → (c.installed.ring ≡ ring → ⊥) →
-    Keeps ring c (moved c (Takes x))
+    Keeps ring c (core_after_move c (Takes x))
 keeps_took {A} ring c x n old =
     let inner = old_ring_messages c.state c x in
-    known_same (knowledge_of ring (moved c (Takes x))) (knowledge_of ring c)
+    known_same (knowledge_of ring (core_after_move c (Takes x))) (knowledge_of ring c)
     (of_others (λ (y : Message A). y.ring) ring inner (x ∷ c.held) (of_another c.installed.ring ring inner old (gives_of c.state c x))
     ∙ of_others (λ (y : Message A). y.ring) ring (x ∷ []) c.held (n, tt))
     refl refl refl refl
@@ -113,7 +113,7 @@ still_left c d ring s t l =
     }
 
 moved_stays : {A : Type 0} → (ring : RingId) (before : Core A) (received : Frame A → Type 0) (c : Core A) (m : Move A) → MayMove received c m →
-    HasStayed ring before c → HasStayed ring before (moved c m)
+    HasStayed ring before c → HasStayed ring before (core_after_move c m)
 moved_stays ring before received c (Idles state gathering last_sent queue sends) h s = record { left = still_left c _ ring refl refl s.left; known = s.known }
 moved_stays ring before received c (Enters k) h s =
     let low : ring.seq ≤ floor c = (s.left).below in
@@ -143,7 +143,7 @@ known_front : {A : Type 0} → (ring : RingId) (c d : Core A) → Keeps ring c d
 known_front {A} ring c d e = sym (front_of_ring d.held ring) ∙ ap (λ (K : RingKnowledge A). front_of K.held ring) e ∙ front_of_ring c.held ring
 
 known_mark : {A : Type 0} → (ring : RingId) (c d : Core A) → Keeps ring c d → mark d ring ≡ mark c ring
-known_mark {A} ring c d e = ap (λ (K : RingKnowledge A). max (mark_by (map (λ (v : TokenVisit A). v.forwarded.aru) K.turns)) (greatest (map (λ (x : Raise). x.mark) K.raises))) e
+known_mark {A} ring c d e = ap (λ (K : RingKnowledge A). max (mark_from_arus (map (λ (v : TokenVisit A). v.forwarded.aru) K.turns)) (greatest (map (λ (x : MarkRaise). x.mark) K.raises))) e
 
 known_bits : {A : Type 0} → (ring : RingId) (c d : Core A) → Keeps ring c d → held_bits d.held ring ≡ held_bits c.held ring
 known_bits {A} ring c d e = sym (held_bits_of_ring d.held ring) ∙ ap (λ (K : RingKnowledge A). held_bits K.held ring) e ∙ held_bits_of_ring c.held ring
@@ -178,7 +178,7 @@ not_running s (inr (inr a)) (inr b) = (let q : Stopped ≡ Operational = sym a �
 abbrev WaitsOrLearned : {A : Type 0} → Core A → Core A → Type 0
 WaitsOrLearned before c = HasWaited before c ⊎ (length before.plans < length c.plans)
 
-learned_more : {A : Type 0} → (c : Core A) (m : Move A) → length c.plans ≤ length (moved c m).plans
+learned_more : {A : Type 0} → (c : Core A) (m : Move A) → length c.plans ≤ length (core_after_move c m).plans
 learned_more c (Learns k) = omega arith
 learned_more c (Idles state gathering last_sent queue sends) = omega arith
 learned_more c (Enters k) = omega arith
@@ -187,7 +187,7 @@ learned_more c (Takes x) = omega arith
 learned_more c Installs = omega arith
 
 waited_moves : {A : Type 0} → (before : Core A) (received : Frame A → Type 0) (c : Core A) (m : Move A) → MayMove received c m → HasWaited before c →
-    WaitsOrLearned before (moved c m)
+    WaitsOrLearned before (core_after_move c m)
 waited_moves before received c (Idles state gathering last_sent queue sends) h w =
     let between : IsBetweenRings c = w.between in
     inl (record {
@@ -230,9 +230,9 @@ waited_moves before received c (Takes x) h w =
 waited_moves before received c Installs h w = absurd (not_running c.state (w.between).state (inl h.state))
 
 moved_waits : {A : Type 0} → (before : Core A) (received : Frame A → Type 0) (c : Core A) (m : Move A) → MayMove received c m → WaitsOrLearned before c →
-    WaitsOrLearned before (moved c m)
+    WaitsOrLearned before (core_after_move c m)
 moved_waits before received c m h (inl w) = waited_moves before received c m h w
-moved_waits before received c m h (inr l) = inr (let more : length c.plans ≤ length (moved c m).plans = learned_more c m in omega (arith, l))
+moved_waits before received c m h (inr l) = inr (let more : length c.plans ≤ length (core_after_move c m).plans = learned_more c m in omega (arith, l))
 
 stays_between : {A : Type 0} → (before later : Core A) → WaitsOrLearned before later → KeepsReport before later
 stays_between before later (inl w) =

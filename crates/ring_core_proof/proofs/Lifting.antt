@@ -17,15 +17,15 @@ use Rattle.ring_core_spec.specs.declared.input.Input.TheVariants.{Frame as Frame
 use Rattle.ring_core_spec.specs.declared.out.Out.{Out}
 use Rattle.ring_core_spec.specs.declared.out.Out.TheVariants.{Send as SendOut, Agreed, Safe, Rest, Regular}
 use Rattle.ring_core_spec.specs.State.{Core, OutgoingFrame, halted, frame_at}
-use Rattle.ring_core_spec.specs.Giving.{may_install, install, addressed, sent, users, agreed_from, safe_from, delivered_from, given, installation_outputs, settle}
+use Rattle.ring_core_spec.specs.Giving.{may_install, install, sends_with_receivers, sent, user_messages_between, agreed_from, safe_from, delivered_from, agreed_and_safe_of_step, installation_outputs, with_installation_if}
 use Rattle.ring_core_spec.specs.Stepping.{ring_step}
 use Rattle.ring_core_spec.specs.Views.{front, mark, plan}
-use Rattle.ring_core_spec.specs.Recoveries.{rests}
+use Rattle.ring_core_spec.specs.Recoveries.{rest_messages}
 use Rattle.ring_core_proof.specs.declared.event.RingEvent.{RingEvent}
 use Rattle.ring_core_proof.specs.declared.event.RingEvent.TheVariants.{Send, Deliver, Timeout, Stop}
-use Rattle.ring_core_proof.specs.Worlds.{Transmission, World, put, transmission_by, transmissions_from, after_step, is_node, stepped_if}
-use Rattle.ring_core_proof.specs.Worlds.{stopped_if, handed_if, handed, happens, run}
-use Rattle.ring_core_proof.specs.Moves.{Move, Idles, Enters, Learns, Visits, Takes, Installs, moved, sends_of, MayInstall}
+use Rattle.ring_core_proof.specs.Worlds.{Transmission, World, with_core, transmission_by, transmissions_from, after_step, is_node, stepped_if}
+use Rattle.ring_core_proof.specs.Worlds.{stopped_if, handed_if, handed, world_after_event, run}
+use Rattle.ring_core_proof.specs.Moves.{Move, Idles, Enters, Learns, Visits, Takes, Installs, core_after_move, sends_of, MayInstall}
 use Rattle.ring_core_proof.specs.Moves.{MayMove, after_moves, all_sends, MayAll, IsReceivedFrame}
 use Rattle.ring_core_proof.proofs.InLists.{each-in, some-left, some-get}
 use Rattle.ring_core_proof.proofs.KeptByMoves.{may_halt}
@@ -34,21 +34,21 @@ use Rattle.ring_core_proof.proofs.StepsAreMoves.{step_moves}
 -- each move of a processor keeps it
 pub record IsKeptInWorlds {A : Type 0} (P : (ℕ → Core A) → List (Transmission A) → Type 0) : Type 1 where
   pub moves : (cores : ℕ → Core A) (frames : List (Transmission A)) (i : ℕ) (m : Move A) → 1 ≤ i → MayMove (IsReceivedFrame frames i) (cores i) m → P cores frames →
-      P (put cores i (moved (cores i) m)) (frames ++ transmissions_from i (sends_of (cores i) m))
+      P (with_core cores i (core_after_move (cores i) m)) (frames ++ transmissions_from i (sends_of (cores i) m))
 
 -- One core replaces another
 
-pub put-put : {A : Type 0} → (cores : ℕ → Core A) (i : ℕ) (a b : Core A) → put (put cores i a) i b ≡ put cores i b
+pub put-put : {A : Type 0} → (cores : ℕ → Core A) (i : ℕ) (a b : Core A) → with_core (with_core cores i a) i b ≡ with_core cores i b
 put-put {A} cores i a b = fun_ext (λ j. twice (j == i) (cores j))
   where
     twice : (t : Bool) (x : Core A) → cond t b (cond t a x) ≡ cond t b x
     twice true x = refl
     twice false x = refl
 
-pub put-own : {A : Type 0} → (cores : ℕ → Core A) (i : ℕ) → put cores i (cores i) ≡ cores
+pub put-own : {A : Type 0} → (cores : ℕ → Core A) (i : ℕ) → with_core cores i (cores i) ≡ cores
 put-own cores i = fun_ext (λ j. cond_both (j == i) (cores i) (cores j) (λ x. x ≡ cores j) (λ e. ap cores (sym (eqb-true j i e))) (λ e. refl))
 
-pub put-here : {A : Type 0} → (cores : ℕ → Core A) (i : ℕ) (c : Core A) → put cores i c i ≡ c
+pub put-here : {A : Type 0} → (cores : ℕ → Core A) (i : ℕ) (c : Core A) → with_core cores i c i ≡ c
 put-here cores i c = cond-true (i == i) c (cores i) (eq-eqb i i refl)
 
 -- a node's number is at least 1
@@ -58,7 +58,7 @@ node_low w i e = leb-true 1 i (and_parts (nat_le 1 i) (nat_le i w.total) e).0
 -- events, one list after another
 pub cores-append : {A : Type 0} → (w : World A) (xs ys : List (RingEvent A)) → run w (xs ++ ys) ≡ run (run w xs) ys
 cores-append w [] ys = refl
-cores-append w (x ∷ xs) ys = cores-append (happens w x) xs ys
+cores-append w (x ∷ xs) ys = cores-append (world_after_event w x) xs ys
 
 -- Frames
 
@@ -87,15 +87,15 @@ any_each xs = each-in (λ x. Unit {0}) xs (λ x i. tt)
 pub told_from : {A : Type 0} → (c : Core A) (ring : RingId) (f m : ℕ) → Each IsTold (delivered_from c ring f m)
 told_from c ring f m =
     each-append IsTold (agreed_from c ring f) (safe_from c ring m)
-    (each-map IsTold (λ x. Agreed ring x.number x) (users c ring f (front c ring)) (each-in _ _ (λ x k i. refl)))
+    (each-map IsTold (λ x. Agreed ring x.number x) (user_messages_between c ring f (front c ring)) (each-in _ _ (λ x k i. refl)))
     (cond_both (nat_lt m (mark c ring)) (Safe ring (mark c ring) ∷ []) [] (Each IsTold) (λ e. (λ i. refl, tt)) (λ e. tt))
 
 pub told_configured : {A : Type 0} → (c : Core A) → Each IsTold (installation_outputs c)
 told_configured c = (
   λ i. refl,
-  each-append IsTold (map (λ x. Rest x.ring x.number x) (rests (plan c) c.held))
+  each-append IsTold (map (λ x. Rest x.ring x.number x) (rest_messages (plan c) c.held))
       (Regular c.running.ring c.running.members ∷ delivered_from c c.running.ring 0 0)
-      (each-map IsTold (λ x. Rest x.ring x.number x) (rests (plan c) c.held) (each-in _ _ (λ x k i. refl)))
+      (each-map IsTold (λ x. Rest x.ring x.number x) (rest_messages (plan c) c.held) (each-in _ _ (λ x k i. refl)))
       (λ i. refl, told_from c c.running.ring 0 0),
 )
 
@@ -103,7 +103,7 @@ pub outs_carried : {A : Type 0} → (i : ℕ) (sends : List (OutgoingFrame A)) (
     filter_map (transmission_by i) (sent sends ++ told) ≡ transmissions_from i sends
 outs_carried i sends told h =
     filter_map-append (transmission_by i) (sent sends) told ∙ ap (λ xs. filter_map (transmission_by i) (sent sends) ++ xs)
-    (none_carried i told h) ∙ append-nil _ ∙ sends_carried i (addressed sends)
+    (none_carried i told h) ∙ append-nil _ ∙ sends_carried i (sends_with_receivers sends)
 
 -- a frame that was sent to a processor arrived at it
 pub came_at : {A : Type 0} → (frames : List (Transmission A)) (i n : ℕ) (f : Transmission A) → frame_at frames n ≡ Some f → has f.to i ≡ true → IsReceivedFrame frames i f.frame
@@ -153,46 +153,46 @@ may_when received received' f c Installs h = h
 module _ {A : Type 0} (P : (ℕ → Core A) → List (Transmission A) → Type 0) (k : IsKeptInWorlds P) where
   kept_all : (received : Frame A → Type 0) (cores : ℕ → Core A) (frames : List (Transmission A)) (i : ℕ) (c : Core A) (ms : List (Move A)) → cores i ≡ c → 1 ≤ i →
       ((f : Frame A) → received f → IsReceivedFrame frames i f) → MayAll received c ms → P cores frames →
-      P (put cores i (after_moves c ms)) (frames ++ transmissions_from i (all_sends c ms))
+      P (with_core cores i (after_moves c ms)) (frames ++ transmissions_from i (all_sends c ms))
   kept_all received cores frames i c [] e low f h p =
-      let same : cores ≡ put cores i c = sym (ap (put cores i) (sym e) ∙ put-own cores i) in
-      subst (λ fs. P (put cores i c) fs) (sym (append-nil frames)) (subst (λ cs. P cs frames) same p)
+      let same : cores ≡ with_core cores i c = sym (ap (with_core cores i) (sym e) ∙ put-own cores i) in
+      subst (λ fs. P (with_core cores i c) fs) (sym (append-nil frames)) (subst (λ cs. P cs frames) same p)
   kept_all received cores frames i c (m ∷ ms) e low f h p =
-      let first : P (put cores i (moved c m)) (frames ++ transmissions_from i (sends_of c m)) =
-      subst (λ x. P (put cores i (moved x m)) (frames ++ transmissions_from i (sends_of x m))) e
+      let first : P (with_core cores i (core_after_move c m)) (frames ++ transmissions_from i (sends_of c m)) =
+      subst (λ x. P (with_core cores i (core_after_move x m)) (frames ++ transmissions_from i (sends_of x m))) e
       (k.moves cores frames i m low (subst (λ x. MayMove (IsReceivedFrame frames i) x m) (sym e) (may_when received (IsReceivedFrame frames i) f c m h.0)) p) in
-      let rest : P (put (put cores i (moved c m)) i (after_moves (moved c m) ms))
-      ((frames ++ transmissions_from i (sends_of c m)) ++ transmissions_from i (all_sends (moved c m) ms)) =
-      kept_all received (put cores i (moved c m)) (frames ++ transmissions_from i (sends_of c m)) i (moved c m) ms
-      (put-here cores i (moved c m)) low (λ x q. some-left _ frames (transmissions_from i (sends_of c m)) (f x q))
+      let rest : P (with_core (with_core cores i (core_after_move c m)) i (after_moves (core_after_move c m) ms))
+      ((frames ++ transmissions_from i (sends_of c m)) ++ transmissions_from i (all_sends (core_after_move c m) ms)) =
+      kept_all received (with_core cores i (core_after_move c m)) (frames ++ transmissions_from i (sends_of c m)) i (core_after_move c m) ms
+      (put-here cores i (core_after_move c m)) low (λ x q. some-left _ frames (transmissions_from i (sends_of c m)) (f x q))
       h.1 first in
-      let both : (frames ++ transmissions_from i (sends_of c m)) ++ transmissions_from i (all_sends (moved c m) ms) ≡ frames
-      ++ transmissions_from i (sends_of c m ++ all_sends (moved c m) ms) =
-      append_assoc frames (transmissions_from i (sends_of c m)) (transmissions_from i (all_sends (moved c m) ms))
-      ∙ ap (λ xs. frames ++ xs) (sym (carried-append i (sends_of c m) (all_sends (moved c m) ms))) in
-      subst (λ fs. P (put cores i (after_moves (moved c m) ms)) fs) both
-      (subst (λ cs. P cs ((frames ++ transmissions_from i (sends_of c m)) ++ transmissions_from i (all_sends (moved c m) ms)))
-      (put-put cores i (moved c m) (after_moves (moved c m) ms)) rest)
+      let both : (frames ++ transmissions_from i (sends_of c m)) ++ transmissions_from i (all_sends (core_after_move c m) ms) ≡ frames
+      ++ transmissions_from i (sends_of c m ++ all_sends (core_after_move c m) ms) =
+      append_assoc frames (transmissions_from i (sends_of c m)) (transmissions_from i (all_sends (core_after_move c m) ms))
+      ∙ ap (λ xs. frames ++ xs) (sym (carried-append i (sends_of c m) (all_sends (core_after_move c m) ms))) in
+      subst (λ fs. P (with_core cores i (after_moves (core_after_move c m) ms)) fs) both
+      (subst (λ cs. P cs ((frames ++ transmissions_from i (sends_of c m)) ++ transmissions_from i (all_sends (core_after_move c m) ms)))
+      (put-put cores i (core_after_move c m) (after_moves (core_after_move c m) ms)) rest)
 
   kept_settled : (cores : ℕ → Core A) (frames : List (Transmission A)) (i : ℕ) (old c : Core A) (sends : List (OutgoingFrame A)) (b : Bool) → 1 ≤ i →
-      (b ≡ true → MayInstall c) → P (put cores i c) (frames ++ transmissions_from i sends) →
-      P (put cores i (settle b c (sent sends ++ given old c)).core) (frames ++ filter_map (transmission_by i) (settle b c (sent sends ++ given old c)).outs)
+      (b ≡ true → MayInstall c) → P (with_core cores i c) (frames ++ transmissions_from i sends) →
+      P (with_core cores i (with_installation_if b c (sent sends ++ agreed_and_safe_of_step old c)).core) (frames ++ filter_map (transmission_by i) (with_installation_if b c (sent sends ++ agreed_and_safe_of_step old c)).outs)
   kept_settled cores frames i old c sends false low h p =
-      subst (λ fs. P (put cores i c) (frames ++ fs)) (sym (outs_carried i sends (given old c) (told_from c old.installed.ring _ _))) p
+      subst (λ fs. P (with_core cores i c) (frames ++ fs)) (sym (outs_carried i sends (agreed_and_safe_of_step old c) (told_from c old.installed.ring _ _))) p
   kept_settled cores frames i old c sends true low h p =
       let fs = frames ++ transmissions_from i sends in
-      let q : P (put (put cores i c) i (moved (put cores i c i) Installs)) (fs ++ []) =
-      k.moves (put cores i c) fs i Installs low (subst (λ x. MayInstall x) (sym (put-here cores i c)) (h refl)) p in
-      let r : P (put (put cores i c) i (install c)) (fs ++ []) = subst (λ x. P (put (put cores i c) i (install x)) (fs ++ [])) (put-here cores i c) q in
-      let s : P (put cores i (install c)) (frames ++ transmissions_from i sends) =
-      subst (λ gs. P (put cores i (install c)) gs) (append-nil fs)
+      let q : P (with_core (with_core cores i c) i (core_after_move (with_core cores i c i) Installs)) (fs ++ []) =
+      k.moves (with_core cores i c) fs i Installs low (subst (λ x. MayInstall x) (sym (put-here cores i c)) (h refl)) p in
+      let r : P (with_core (with_core cores i c) i (install c)) (fs ++ []) = subst (λ x. P (with_core (with_core cores i c) i (install x)) (fs ++ [])) (put-here cores i c) q in
+      let s : P (with_core cores i (install c)) (frames ++ transmissions_from i sends) =
+      subst (λ gs. P (with_core cores i (install c)) gs) (append-nil fs)
       (subst (λ cs. P cs (fs ++ [])) (put-put cores i c (install c)) r) in
-      let told : Each IsTold (given old c ++ installation_outputs c) = each-append IsTold (given old c) (installation_outputs c)
+      let told : Each IsTold (agreed_and_safe_of_step old c ++ installation_outputs c) = each-append IsTold (agreed_and_safe_of_step old c) (installation_outputs c)
       (told_from c old.installed.ring _ _) (told_configured c) in
-      let outs : filter_map (transmission_by i) ((sent sends ++ given old c) ++ installation_outputs c) ≡ transmissions_from i sends =
-      ap (filter_map (transmission_by i)) (append_assoc (sent sends) (given old c) (installation_outputs c)) ∙ outs_carried i sends
-      (given old c ++ installation_outputs c) told in
-      subst (λ gs. P (put cores i (install c)) (frames ++ gs)) (sym outs) s
+      let outs : filter_map (transmission_by i) ((sent sends ++ agreed_and_safe_of_step old c) ++ installation_outputs c) ≡ transmissions_from i sends =
+      ap (filter_map (transmission_by i)) (append_assoc (sent sends) (agreed_and_safe_of_step old c) (installation_outputs c)) ∙ outs_carried i sends
+      (agreed_and_safe_of_step old c ++ installation_outputs c) told in
+      subst (λ gs. P (with_core cores i (install c)) (frames ++ gs)) (sym outs) s
 
   kept_after : (w : World A) (i : ℕ) (input : Input A) → 1 ≤ i → ((f : Frame A) → input ≡ FrameInput f → IsReceivedFrame w.frames i f) → P w.cores w.frames →
       P (after_step w i (ring_step (w.cores i) input)).cores (after_step w i (ring_step (w.cores i) input)).frames
@@ -200,7 +200,7 @@ module _ {A : Type 0} (P : (ℕ → Core A) → List (Transmission A) → Type 0
       let c = w.cores i in
       let s = step_moves c input in
       let d = after_moves c s.moves in
-      subst (λ x. P (put w.cores i x.core) (w.frames ++ filter_map (transmission_by i) x.outs)) (sym s.step)
+      subst (λ x. P (with_core w.cores i x.core) (w.frames ++ filter_map (transmission_by i) x.outs)) (sym s.step)
       (kept_settled w.cores w.frames i c d (all_sends c s.moves) (may_install d) low s.installs
       (kept_all (λ frame. input ≡ FrameInput frame) w.cores w.frames i c s.moves refl low f s.may p))
 
@@ -216,7 +216,7 @@ module _ {A : Type 0} (P : (ℕ → Core A) → List (Transmission A) → Type 0
   kept_stopped false w i low p = p
   kept_stopped true w i low p =
       let c = w.cores i in
-      subst (λ fs. P (put w.cores i (halted c)) fs) (append-nil w.frames)
+      subst (λ fs. P (with_core w.cores i (halted c)) fs) (append-nil w.frames)
       (k.moves w.cores w.frames i (Idles Stopped c.gathering c.last_sent c.queue []) (low refl) (may_halt c) p)
 
   kept_handed : (b : Bool) (w : World A) (i : ℕ) (frame : Frame A) → (b ≡ true → IsReceivedFrame w.frames i frame) → Kept w → Kept (handed_if b w i frame)
@@ -229,7 +229,7 @@ module _ {A : Type 0} (P : (ℕ → Core A) → List (Transmission A) → Type 0
   kept_found w i None received p = p
   kept_found w i (Some f) received p = kept_handed (has f.to i) w i f.frame (received f refl) p
 
-  kept_event : (w : World A) (e : RingEvent A) → Kept w → Kept (happens w e)
+  kept_event : (w : World A) (e : RingEvent A) → Kept w → Kept (world_after_event w e)
   kept_event w (Send i payload) p = kept_stepped (is_node w i) w i (SendInput payload) (node_low w i) (λ f e. absurd cc) p
   kept_event w (Deliver i n) p = kept_found w i (frame_at w.frames n) (λ f e h. came_at w.frames i n f e h) p
   kept_event w (Timeout i kind) p = kept_stepped (is_node w i) w i (TimeInput kind) (node_low w i) (λ f e. absurd cc) p
@@ -237,4 +237,4 @@ module _ {A : Type 0} (P : (ℕ → Core A) → List (Transmission A) → Type 0
 
   pub kept_run : (w : World A) (events : List (RingEvent A)) → Kept w → Kept (run w events)
   kept_run w [] p = p
-  kept_run w (e ∷ events) p = kept_run (happens w e) events (kept_event w e p)
+  kept_run w (e ∷ events) p = kept_run (world_after_event w e) events (kept_event w e p)

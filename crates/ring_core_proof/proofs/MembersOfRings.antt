@@ -14,7 +14,7 @@ use Rattle.ring_wire.specs.declared.commit.CommitToken.{CommitToken}
 use Rattle.ring_wire.specs.declared.frame.Frame.{Frame}
 use Rattle.ring_wire.specs.declared.frame.Frame.TheVariants.{Join as JoinFrame}
 use Rattle.ring_wire.specs.declared.join.Join.{Join}
-use Rattle.ring_core_spec.specs.Joins.{Gathering, has_same_sets, agreed, sets_merged, join_merged, candidates}
+use Rattle.ring_core_spec.specs.Joins.{Gathering, has_same_sets, with_agreement, sets_merged, join_merged, candidates}
 use Rattle.ring_core_spec.specs.Commits.{Configuration}
 use Rattle.ring_core_spec.specs.declared.input.Input.{Input}
 use Rattle.ring_core_spec.specs.declared.input.Input.TheVariants.{Frame as FrameInput, Timeout as TimeInput, Send as SendInput}
@@ -25,14 +25,14 @@ use Rattle.ring_core_spec.specs.Joining.{first_procs, gather_entered, proposes}
 use Rattle.ring_core_spec.specs.Deciding.{Transition, Ignore, Enqueue, Repeat, Announce, Invite, GiveUp, EnterGather, Agree, MergeJoin, EnterGatherAndAgree}
 use Rattle.ring_core_spec.specs.Deciding.{EnterGatherAndMergeJoin}
 use Rattle.ring_core_spec.specs.Deciding.{Take, Visit, Fill, Learn, decide_if_named, decide}
-use Rattle.ring_core_spec.specs.Transitions.{apply_transition, may_propose_after, with_proposal_if, done}
-use Rattle.ring_core_spec.specs.Giving.{may_install, settle, sent, given}
+use Rattle.ring_core_spec.specs.Transitions.{apply_transition, may_propose_after, with_proposal_if, transition_and_proposal}
+use Rattle.ring_core_spec.specs.Giving.{may_install, with_installation_if, sent, agreed_and_safe_of_step}
 use Rattle.ring_core_spec.specs.Stepping.{ring_step}
 use Rattle.ring_core_proof.specs.FactWords.{IsIn}
-use Rattle.ring_core_proof.specs.LawWords.{HasPassed, IsInputOf}
+use Rattle.ring_core_proof.specs.LawConditions.{HasPassed, IsInputOf}
 use Rattle.ring_core_proof.specs.declared.event.RingEvent.{RingEvent}
 use Rattle.ring_core_proof.specs.declared.event.RingEvent.TheVariants.{Send, Deliver, Timeout, Stop}
-use Rattle.ring_core_proof.specs.Worlds.{World, put, is_node, stepped_if, stopped_if, handed_if, handed, happens, run, unformed}
+use Rattle.ring_core_proof.specs.Worlds.{World, with_core, is_node, stepped_if, stopped_if, handed_if, handed, world_after_event, run, unformed}
 use Rattle.ring_core_proof.proofs.Causes.{caused}
 use Rattle.ring_core_proof.proofs.Guards.{guarded}
 use Rattle.ring_core_proof.proofs.InLists.{in-each}
@@ -125,7 +125,7 @@ widened_lt : (n me : ℕ) (g : Gathering) (j : Join) → g.proc_set < 2 ^ n → 
 widened_lt n me g j a b =
     let s = sets_merged me g j in
     let both : s.proc_set < 2 ^ n = or_lt n g.proc_set j.proc_set a b in
-    cond_both (has_same_sets s j) (agreed s j) s (λ (h : Gathering). h.proc_set < 2 ^ n) (λ e. both) (λ e. both)
+    cond_both (has_same_sets s j) (with_agreement s j) s (λ (h : Gathering). h.proc_set < 2 ^ n) (λ e. both) (λ e. both)
 
 first_lt : {A : Type 0} → (n : ℕ) (c : Core A) → IsWithin n c → first_procs c < 2 ^ n
 first_lt n c w =
@@ -168,7 +168,7 @@ proposed_within : {A : Type 0} → (n : ℕ) (b : Bool) (d : TransitionResult A)
 proposed_within n false d w = w
 proposed_within n true d w = enters n d.core _ (candidates_lt n d.core.gathering w.procs) w
 
-settled_within : {A : Type 0} → (n : ℕ) (b : Bool) (c : Core A) (outs : List (Out A)) → IsWithin n c → IsWithin n (settle b c outs).core
+settled_within : {A : Type 0} → (n : ℕ) (b : Bool) (c : Core A) (outs : List (Out A)) → IsWithin n c → IsWithin n (with_installation_if b c outs).core
 settled_within n false c outs w = w
 settled_within n true c outs w = record { among = w.among; procs = w.procs; running = w.running; installed = w.running; rings = w.rings }
 
@@ -178,8 +178,8 @@ step_within {A} n c input w =
     let a = decide c input in
     let names : NamesGroup n a = subst (λ total. NamesGroup total a) w.among (names_group c input a refl (caused c input)) in
     let d = apply_transition c a in
-    let e = done c a in
-    settled_within n (may_install e.core) e.core (sent e.sends ++ given c e.core)
+    let e = transition_and_proposal c a in
+    settled_within n (may_install e.core) e.core (sent e.sends ++ agreed_and_safe_of_step c e.core)
     (proposed_within n (may_propose_after a && proposes d.core) d (act_within n c a (guarded c input) names w))
 
 -- Every world
@@ -193,7 +193,7 @@ abbrev pub AllStand : {A : Type 0} → World A → Type 0
 AllStand w = (q : ℕ) → StandsAs (is_node w q) w.total (w.cores q)
 
 module _ {A : Type 0} (w : World A) (all : AllStand w) where
-  put_stands : (i : ℕ) (c : Core A) → is_node w i ≡ true → IsWithin w.total c → (q : ℕ) → StandsAs (is_node w q) w.total (put w.cores i c q)
+  put_stands : (i : ℕ) (c : Core A) → is_node w i ≡ true → IsWithin w.total c → (q : ℕ) → StandsAs (is_node w q) w.total (with_core w.cores i c q)
   put_stands i c node h q =
       cond_both (q == i) c (w.cores q) (λ (x : Core A). StandsAs (is_node w q) w.total x)
       (λ e. subst (λ b. StandsAs b w.total c) (sym (ap (is_node w) (eqb-true q i e) ∙ node)) h) (λ e. all q)
@@ -217,7 +217,7 @@ module _ {A : Type 0} (w : World A) (all : AllStand w) where
   hands_stand i None = all
   hands_stand i (Some f) = comes_stand (has f.to i) i f.frame
 
-  event_stands : (e : RingEvent A) → AllStand (happens w e)
+  event_stands : (e : RingEvent A) → AllStand (world_after_event w e)
   event_stands (Send i payload) = steps_stand (is_node w i) i (SendInput payload) refl
   event_stands (Deliver i k) = hands_stand i (frame_at w.frames k)
   event_stands (Timeout i kind) = steps_stand (is_node w i) i (TimeInput kind) refl
@@ -225,7 +225,7 @@ module _ {A : Type 0} (w : World A) (all : AllStand w) where
 
 run_stands : {A : Type 0} → (w : World A) (events : List (RingEvent A)) → AllStand w → AllStand (run w events)
 run_stands w [] all = all
-run_stands w (e ∷ events) all = run_stands (happens w e) events (event_stands w all e)
+run_stands w (e ∷ events) all = run_stands (world_after_event w e) events (event_stands w all e)
 
 only_lt : (n q : ℕ) → 1 ≤ q → q ≤ n → only q < 2 ^ n
 only_lt n q low high = pow_below (q - 1) n (omega (arith, low, high))

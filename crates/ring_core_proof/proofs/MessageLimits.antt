@@ -12,12 +12,12 @@ use Rattle.ring_base.specs.declared.state.State.TheVariants.{Gather, Commit, Rec
 use Rattle.ring_base.proofs.Each.{each-weaker, each-append}
 use Rattle.ring_wire.specs.Rings.{RingFits}
 use Rattle.ring_payload.specs.Contents.{ContentFits, WrappedFits}
-use Rattle.ring_payload.specs.Kinds.{is_user, payload_of}
+use Rattle.ring_payload.specs.PayloadKinds.{is_user, payload_of}
 use Rattle.ring_payload.specs.Payloads.{PayloadFits}
-use Rattle.ring_payload.specs.declared.content.Content.{Content}
-use Rattle.ring_payload.specs.declared.content.Content.TheVariants.{Call as CallContent, Head as HeadContent}
-use Rattle.ring_payload.specs.declared.content.Content.TheVariants.{Part as PartContent, Pack as PackContent}
-use Rattle.ring_payload.specs.declared.content.Content.TheVariants.{Snap as SnapContent}
+use Rattle.ring_payload.specs.declared.content.WrappedPayload.{WrappedPayload}
+use Rattle.ring_payload.specs.declared.content.WrappedPayload.TheVariants.{Call as CallContent, Head as HeadContent}
+use Rattle.ring_payload.specs.declared.content.WrappedPayload.TheVariants.{Part as PartContent, Pack as PackContent}
+use Rattle.ring_payload.specs.declared.content.WrappedPayload.TheVariants.{Snap as SnapContent}
 use Rattle.ring_payload.specs.declared.content.Payload.{Payload}
 use Rattle.ring_payload.specs.declared.content.Payload.TheVariants.{Call, Wrapped, End, Head, Part, Pack, Snap}
 use Rattle.ring_payload.specs.declared.content.Wrapped.{Wrapped as WrappedMessage}
@@ -49,21 +49,21 @@ user_older (Snap snap) ring u = tt
 user_older (Wrapped w) ring u = absurd (false≢true u)
 user_older End ring u = tt
 
-payload_fits : {A : Type 0} → (content : Content A) → ContentFits content → PayloadFits (payload_of content)
+payload_fits : {A : Type 0} → (content : WrappedPayload A) → ContentFits content → PayloadFits (payload_of content)
 payload_fits (CallContent call) f = f
 payload_fits (HeadContent head) f = f
 payload_fits (PartContent part) f = f
 payload_fits (PackContent pack) f = f
 payload_fits (SnapContent snap) f = f
 
-content_fits : {A : Type 0} → (content : Content A) → PayloadFits (payload_of content) → ContentFits content
+content_fits : {A : Type 0} → (content : WrappedPayload A) → PayloadFits (payload_of content) → ContentFits content
 content_fits (CallContent call) f = f
 content_fits (HeadContent head) f = f
 content_fits (PartContent part) f = f
 content_fits (PackContent pack) f = f
 content_fits (SnapContent snap) f = f
 
-content_older : {A : Type 0} → (content : Content A) (ring : RingId) → IsOlder (payload_of content) ring
+content_older : {A : Type 0} → (content : WrappedPayload A) (ring : RingId) → IsOlder (payload_of content) ring
 content_older (CallContent call) ring = tt
 content_older (HeadContent head) ring = tt
 content_older (PartContent part) ring = tt

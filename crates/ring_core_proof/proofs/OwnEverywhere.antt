@@ -7,7 +7,7 @@ use Rattle.ring_core_spec.specs.State.{Core, opening}
 use Rattle.ring_core_spec.specs.Stepping.{after_inputs}
 use Rattle.ring_core_proof.specs.declared.event.RingEvent.{RingEvent}
 use Rattle.ring_core_proof.specs.Worlds.{run, unformed}
-use Rattle.ring_core_proof.specs.Moves.{Move, Idles, Enters, Learns, Visits, Takes, Installs, moved, MayMove}
+use Rattle.ring_core_proof.specs.Moves.{Move, Idles, Enters, Learns, Visits, Takes, Installs, core_after_move, MayMove}
 use Rattle.ring_core_proof.proofs.KeptByMoves.{IsKeptByMoves, always, everywhere}
 use Rattle.ring_core_proof.proofs.WithinWindow.{IsCoreInWindow, moved_fits}
 use Rattle.ring_core_proof.specs.CoreInvariants.{RingsFit, FactsFit, VisitsRise, LocalFacts}
@@ -25,7 +25,7 @@ pub record Holds {A : Type 0} (c : Core A) : Type 0 where
   pub visits : VisitsRise c.turns
   pub reports : AreTrue c
 
-moved_rising : {A : Type 0} → (received : Frame A → Type 0) (c : Core A) (m : Move A) → MayMove received c m → VisitsRise c.turns → VisitsRise (moved c m).turns
+moved_rising : {A : Type 0} → (received : Frame A → Type 0) (c : Core A) (m : Move A) → MayMove received c m → VisitsRise c.turns → VisitsRise (core_after_move c m).turns
 moved_rising received c (Visits t fresh requests again queue) h r = (h.newer, r)
 moved_rising received c (Idles state gathering last_sent queue sends) h r = r
 moved_rising received c (Enters k) h r = r
@@ -33,7 +33,7 @@ moved_rising received c (Learns k) h r = r
 moved_rising received c (Takes x) h r = r
 moved_rising received c Installs h r = r
 
-pub moved_holds : {A : Type 0} → (received : Frame A → Type 0) (c : Core A) (m : Move A) → MayMove received c m → Holds c → Holds (moved c m)
+pub moved_holds : {A : Type 0} → (received : Frame A → Type 0) (c : Core A) (m : Move A) → MayMove received c m → Holds c → Holds (core_after_move c m)
 moved_holds received c m h p =
     record {
       fit = moved_fits received c m h p.fit;

@@ -17,7 +17,7 @@ use Rattle.ring_wire.specs.declared.message.Message.{Message}
 use Rattle.ring_wire.specs.declared.token.Token.{Token}
 use Rattle.ring_core_spec.specs.Windows.{is_new}
 use Rattle.ring_base.proofs.SameRing.{ring_same}
-use Rattle.ring_core_spec.specs.Tokens.{TokenVisit, Raise, numbered}
+use Rattle.ring_core_spec.specs.Tokens.{TokenVisit, MarkRaise, numbered}
 use Rattle.ring_core_spec.specs.Recoveries.{inner_if_new, inner_messages}
 use Rattle.ring_core_spec.specs.Commits.{Configuration}
 use Rattle.ring_core_spec.specs.State.{Core, Report, floor}
@@ -25,7 +25,7 @@ use Rattle.ring_core_spec.specs.Views.{mark, own_entry}
 use Rattle.ring_core_spec.specs.Transitions.{old_ring_messages}
 use Rattle.ring_core_spec.proofs.Tokens.{numbered-ring}
 use Rattle.ring_core_proof.specs.FactWords.{IsIn}
-use Rattle.ring_core_proof.specs.Moves.{Move, Idles, Enters, Learns, Visits, Takes, Installs, moved, MayEnter, MayLearn, MayVisit, MayTake, MayMove}
+use Rattle.ring_core_proof.specs.Moves.{Move, Idles, Enters, Learns, Visits, Takes, Installs, core_after_move, MayEnter, MayLearn, MayVisit, MayTake, MayMove}
 use Rattle.ring_core_proof.proofs.InLists.{in-each}
 use Rattle.ring_core_proof.specs.CoreInvariants.{RingsFit, IsRingAmong, IsOnTheWay, IsKnownBelow, FactsFit}
 use Rattle.ring_core_proof.proofs.OwnRings.{idles_in, newest_in, under_floor}
@@ -89,7 +89,7 @@ module _ {A : Type 0} (c : Core A) (rings : RingsFit c) where
       record {
         held = all_below (λ (x : Message A). x.ring) number c.held l f.held;
         turns = all_below (λ (v : TokenVisit A). v.received.ring) number c.turns l f.turns;
-        raises = all_below (λ (x : Raise). x.ring) number c.raises l (each-weaker _ _ (λ (x : Raise) a. installs_among x.ring a) c.raises f.raises);
+        raises = all_below (λ (x : MarkRaise). x.ring) number c.raises l (each-weaker _ _ (λ (x : MarkRaise) a. installs_among x.ring a) c.raises f.raises);
         plans = all_below (λ (k : CommitToken). k.ring) number c.plans l f.plans;
       }
 
@@ -112,7 +112,7 @@ takes_not_commit received c x h k =
     elim (h.ring) [ inl r ↦ running_not_commit c.state r.state k | inr r ↦ (let q : Gather ≡ Commit = sym r.state ∙ k in let n : ⊥ = cc in n) ]
 
 entered_facts : {A : Type 0} → (received : Frame A → Type 0) (c : Core A) (k : CommitToken) → MayEnter received c k → RingsFit c → FactsFit c →
-    FactsFit (moved c (Enters k))
+    FactsFit (core_after_move c (Enters k))
 entered_facts {A} received c k h rings f =
     let p : Configuration = record { ring = k.ring; members = k.members } in
     let above : floor c < k.ring.seq = h.above in
@@ -139,7 +139,7 @@ entered_facts {A} received c k h rings f =
     }
 
 learned_facts : {A : Type 0} → (received : Frame A → Type 0) (c : Core A) (k : CommitToken) → MayLearn received c k → RingsFit c → FactsFit c →
-    FactsFit (moved c (Learns k))
+    FactsFit (core_after_move c (Learns k))
 learned_facts {A} received c k h rings f =
     let below : IsKnownBelow c (floor c) = f.unknown h.state in
     let same : k.ring.seq ≡ floor c = ap (λ (r : RingId). r.seq) h.ring in
@@ -160,7 +160,7 @@ learned_facts {A} received c k h rings f =
 
 visited_facts : {A : Type 0} →
     (received : Frame A → Type 0) (c : Core A) (t : Token) (fresh : List (Payload A)) (requests : List ℕ) (again : List (Message A)) (queue : List (Payload A)) →
-    MayVisit received c t fresh again queue → RingsFit c → FactsFit c → FactsFit (moved c (Visits t fresh requests again queue))
+    MayVisit received c t fresh again queue → RingsFit c → FactsFit c → FactsFit (core_after_move c (Visits t fresh requests again queue))
 visited_facts {A} received c t fresh requests again queue h rings f =
     let here : IsRingAmong c.rings t.ring = subst (IsRingAmong c.rings) (sym h.ring) (running_among c rings) in
     let new = reverse (numbered t.ring c.me t.seq fresh) in
@@ -178,7 +178,7 @@ visited_facts {A} received c t fresh requests again queue h rings f =
       unknown = λ s. absurd (running_not_commit c.state h.state s);
     }
 
-took_facts : {A : Type 0} → (received : Frame A → Type 0) (c : Core A) (x : Message A) → MayTake received c x → RingsFit c → FactsFit c → FactsFit (moved c (Takes x))
+took_facts : {A : Type 0} → (received : Frame A → Type 0) (c : Core A) (x : Message A) → MayTake received c x → RingsFit c → FactsFit c → FactsFit (core_after_move c (Takes x))
 took_facts {A} received c x h rings f =
     let old : IsRingAmong c.rings c.installed.ring = installs_among c rings c.installed.ring (installed_among c rings) in
     let here : IsRingAmong c.rings x.ring = elim (h.ring) [
@@ -200,7 +200,7 @@ took_facts {A} received c x h rings f =
       unknown = λ s. absurd (takes_not_commit received c x h s);
     }
 
-pub moved_facts : {A : Type 0} → (received : Frame A → Type 0) (c : Core A) (m : Move A) → MayMove received c m → RingsFit c → FactsFit c → FactsFit (moved c m)
+pub moved_facts : {A : Type 0} → (received : Frame A → Type 0) (c : Core A) (m : Move A) → MayMove received c m → RingsFit c → FactsFit c → FactsFit (core_after_move c m)
 moved_facts received c (Enters k) h rings f = entered_facts received c k h rings f
 moved_facts received c (Learns k) h rings f = learned_facts received c k h rings f
 moved_facts received c (Visits t fresh requests again queue) h rings f = visited_facts received c t fresh requests again queue h rings f
@@ -221,7 +221,7 @@ moved_facts {A} received c Installs h rings f =
     record {
       held = f.held;
       turns = f.turns;
-      raises = each-weaker _ _ (λ (x : Raise) a. among_more c.running c.installs x.ring a) c.raises f.raises;
+      raises = each-weaker _ _ (λ (x : MarkRaise) a. among_more c.running c.installs x.ring a) c.raises f.raises;
       plans = f.plans;
       reports = each-weaker _ _
           (λ (x : Report) w. record { into = w.into; from = among_more c.running c.installs x.entry.old w.from; newer = w.newer }) c.reports f.reports;

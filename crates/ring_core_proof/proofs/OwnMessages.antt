@@ -26,7 +26,7 @@ use Rattle.ring_core_spec.specs.State.{Core, floor}
 use Rattle.ring_core_spec.specs.Views.{mark}
 use Rattle.ring_core_spec.specs.Transitions.{old_ring_messages}
 use Rattle.ring_core_proof.specs.FactWords.{IsIn}
-use Rattle.ring_core_proof.specs.Moves.{Move, Idles, Enters, Learns, Visits, Takes, Installs, moved, MayTake, MayMove}
+use Rattle.ring_core_proof.specs.Moves.{Move, Idles, Enters, Learns, Visits, Takes, Installs, core_after_move, MayTake, MayMove}
 use Rattle.ring_core_proof.proofs.InLists.{in-left, in-right, in-parts, in-reverse, in-each, each-in}
 use Rattle.ring_core_proof.specs.CoreInvariants.{RingsFit}
 
@@ -178,7 +178,7 @@ visited_fit {A} held ring me seq ps top f =
 
 -- Moves
 
-pub moved_fit : {A : Type 0} → (received : Frame A → Type 0) (c : Core A) (m : Move A) → MayMove received c m → RingsFit c → AreFit c.held → AreFit (moved c m).held
+pub moved_fit : {A : Type 0} → (received : Frame A → Type 0) (c : Core A) (m : Move A) → MayMove received c m → RingsFit c → AreFit c.held → AreFit (core_after_move c m).held
 moved_fit received c (Takes x) h rings f =
     gives_new c.state c x (λ s e. not_old received c x rings h s e)
     (more_fit (x ∷ []) c.held (one_alone x) (new_number c.held (mark c x.ring) x.ring x refl h.new, tt) f)
@@ -199,7 +199,7 @@ still_held {A} me xs held turns h =
     each-weaker _ _ (λ (v : TokenVisit A) k. each-weaker (λ (x : Message A). IsIn x held) (λ (x : Message A). IsIn x (xs ++ held)) (λ x i. in-right x xs held i)
     (numbered v.received.ring me v.received.seq v.fresh) k) turns h
 
-pub moved_own : {A : Type 0} → (c : Core A) (m : Move A) → AreHeldOf c.me c.held c.turns → AreHeldOf (moved c m).me (moved c m).held (moved c m).turns
+pub moved_own : {A : Type 0} → (c : Core A) (m : Move A) → AreHeldOf c.me c.held c.turns → AreHeldOf (core_after_move c m).me (core_after_move c m).held (core_after_move c m).turns
 moved_own {A} c (Visits t fresh requests again queue) h =
     let new = numbered t.ring c.me t.seq fresh in
     let held : Each (λ (x : Message A). IsIn x (reverse new ++ c.held)) new = each-in _ new (λ x i. in-left x (reverse new) c.held (in-reverse x new i)) in
@@ -211,7 +211,7 @@ moved_own c (Learns k) h = h
 moved_own c Installs h = h
 
 -- each move keeps what is held
-pub held_stays : {A : Type 0} → (c : Core A) (m : Move A) (x : Message A) → IsIn x c.held → IsIn x (moved c m).held
+pub held_stays : {A : Type 0} → (c : Core A) (m : Move A) (x : Message A) → IsIn x c.held → IsIn x (core_after_move c m).held
 held_stays c (Idles state gathering last_sent queue sends) x i = i
 held_stays c (Enters k) x i = i
 held_stays c (Learns k) x i = i

@@ -23,7 +23,7 @@ use Rattle.ring_core_spec.specs.Recoveries.{is_reported}
 use Rattle.ring_core_spec.specs.State.{Core, Report}
 use Rattle.ring_core_spec.specs.Views.{front, mark, own_entry}
 use Rattle.ring_core_spec.specs.Transitions.{old_ring_messages}
-use Rattle.ring_core_proof.specs.Moves.{Move, Idles, Enters, Learns, Visits, Takes, Installs, turn_with, moved, MayMove}
+use Rattle.ring_core_proof.specs.Moves.{Move, Idles, Enters, Learns, Visits, Takes, Installs, turn_with, core_after_move, MayMove}
 use Rattle.ring_core_proof.proofs.WithinWindow.{front-append, IsCoreInWindow, mark_below, held_below}
 use Rattle.ring_core_proof.specs.CoreInvariants.{IsNewest, IsExactEntry, IsTrueEntry}
 use Rattle.ring_core_proof.proofs.OwnRings.{idles_in}
@@ -115,7 +115,7 @@ same_risen c d h t r =
       held = λ q n e. ap (λ xs. holds xs q n) h ∙ e;
     }
 
-moved_risen : {A : Type 0} → (c : Core A) (m : Move A) → HasRisen c (moved c m)
+moved_risen : {A : Type 0} → (c : Core A) (m : Move A) → HasRisen c (core_after_move c m)
 moved_risen c (Idles state gathering last_sent queue sends) = same_risen c _ refl refl refl
 moved_risen c (Enters k) = same_risen c _ refl refl refl
 moved_risen c Installs = same_risen c _ refl refl refl
@@ -138,33 +138,33 @@ moved_risen c (Takes x) =
       held = λ r n e. holds-more (old_ring_messages c.state c x) (x ∷ c.held) r n (holds-more (x ∷ []) c.held r n e);
     }
 
-pub moved_true : {A : Type 0} → (received : Frame A → Type 0) (c : Core A) (m : Move A) → MayMove received c m → IsCoreInWindow c → AreTrue c → AreTrue (moved c m)
+pub moved_true : {A : Type 0} → (received : Frame A → Type 0) (c : Core A) (m : Move A) → MayMove received c m → IsCoreInWindow c → AreTrue c → AreTrue (core_after_move c m)
 moved_true received c (Enters k) h fit a =
     record {
       newest = λ s. (c.reports, refl);
-      all_true = true_grows c (moved c (Enters k)) (moved_risen c (Enters k))
+      all_true = true_grows c (core_after_move c (Enters k)) (moved_risen c (Enters k))
           (record { ring = k.ring; entry = own_entry c } ∷ c.reports) (true_now c fit, a.all_true);
     }
 moved_true received c (Idles state gathering last_sent queue sends) h fit a =
     record {
       newest = λ s. a.newest (idles_in c.state state Commit h.leaves s (λ q. cc) (λ q. cc));
-      all_true = true_grows c (moved c (Idles state gathering last_sent queue sends)) (moved_risen c (Idles state gathering last_sent queue sends))
+      all_true = true_grows c (core_after_move c (Idles state gathering last_sent queue sends)) (moved_risen c (Idles state gathering last_sent queue sends))
           c.reports a.all_true;
     }
 moved_true received c (Learns k) h fit a =
     record {
       newest = λ s. absurd (let q : Recovery ≡ Commit = s in let n : ⊥ = cc in n);
-      all_true = true_grows c (moved c (Learns k)) (moved_risen c (Learns k)) c.reports a.all_true;
+      all_true = true_grows c (core_after_move c (Learns k)) (moved_risen c (Learns k)) c.reports a.all_true;
     }
 moved_true received c (Visits t fresh requests again queue) h fit a =
     record {
       newest = λ s. absurd (running_not_commit c.state h.state s);
-      all_true = true_grows c (moved c (Visits t fresh requests again queue)) (moved_risen c (Visits t fresh requests again queue)) c.reports a.all_true;
+      all_true = true_grows c (core_after_move c (Visits t fresh requests again queue)) (moved_risen c (Visits t fresh requests again queue)) c.reports a.all_true;
     }
 moved_true received c (Takes x) h fit a =
-    record { newest = λ s. absurd (takes_not_commit received c x h s); all_true = true_grows c (moved c (Takes x)) (moved_risen c (Takes x)) c.reports a.all_true }
+    record { newest = λ s. absurd (takes_not_commit received c x h s); all_true = true_grows c (core_after_move c (Takes x)) (moved_risen c (Takes x)) c.reports a.all_true }
 moved_true received c Installs h fit a =
     record {
       newest = λ s. absurd (let q : Operational ≡ Commit = s in let n : ⊥ = cc in n);
-      all_true = true_grows c (moved c Installs) (moved_risen c Installs) c.reports a.all_true;
+      all_true = true_grows c (core_after_move c Installs) (moved_risen c Installs) c.reports a.all_true;
     }

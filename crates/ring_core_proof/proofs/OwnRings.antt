@@ -11,8 +11,8 @@ use Rattle.ring_wire.specs.declared.frame.Frame.{Frame}
 use Rattle.ring_core_spec.specs.Commits.{Configuration, position_of_hop}
 use Rattle.ring_core_spec.specs.State.{Core, floor, opening}
 use Rattle.ring_core_proof.specs.FactWords.{IsIn}
-use Rattle.ring_core_proof.specs.LawWords.{IsFalling}
-use Rattle.ring_core_proof.specs.Moves.{Move, Idles, Enters, Learns, Visits, Takes, Installs, moved, MayEnter, MayMove}
+use Rattle.ring_core_proof.specs.LawConditions.{IsFalling}
+use Rattle.ring_core_proof.specs.Moves.{Move, Idles, Enters, Learns, Visits, Takes, Installs, core_after_move, MayEnter, MayMove}
 use Rattle.ring_core_proof.specs.CoreInvariants.{IsNewest, RingsFit}
 
 -- States
@@ -42,7 +42,7 @@ entered_member received c k h proc =
     let inside : k.hop < size k.members = h.first proc.0 in
     subst (IsMember k.members) h.here (at_member k.members (position_of_hop k) (mod-lt k.hop (omega (arith, inside)))).1
 
-pub moved_rings : {A : Type 0} → (received : Frame A → Type 0) (c : Core A) (m : Move A) → MayMove received c m → RingsFit c → RingsFit (moved c m)
+pub moved_rings : {A : Type 0} → (received : Frame A → Type 0) (c : Core A) (m : Move A) → MayMove received c m → RingsFit c → RingsFit (core_after_move c m)
 moved_rings received c (Idles state gathering last_sent queue sends) h f =
     record {
       runs = f.runs;

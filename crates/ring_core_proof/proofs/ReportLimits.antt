@@ -4,15 +4,15 @@ use Rattle.std.proofs.Common.{◌≡◌, ℕ, zero, suc, ◌+◌, ◌*◌, ◌<�
 use Rattle.std.specs.Prelude.{if◌then◌else◌}
 use Rattle.std.specs.List.{AllByRecursion as Each}
 use Rattle.std.proofs.lemmas.Bool.{cases_Bool, cases_lt, and_parts, eqb-true, both_ways, false≢true}
-use Rattle.ring_base.specs.Numbers.{max_number, word_of}
+use Rattle.ring_base.specs.Numbers.{max_number, word_from_test}
 use Rattle.ring_base.specs.Rings.{same_ring}
 use Rattle.ring_base.specs.declared.ring_id.RingId.{RingId}
 use Rattle.ring_wire.specs.declared.message.Message.{Message}
 use Rattle.ring_wire.specs.Messages.{MessageFits}
 use Rattle.ring_wire.specs.Entries.{bit_of, AreZero, EntryFits}
 use Rattle.ring_wire.specs.Commits.{IsReport}
-use Rattle.ring_core_spec.specs.Windows.{is_numbered, holds, front_of, bytes_of, held_bits}
-use Rattle.ring_core_spec.proofs.Windows.{held_bit, front_is, length-bytes_of}
+use Rattle.ring_core_spec.specs.Windows.{is_numbered, holds, front_of, bytes_from_bits, held_bits}
+use Rattle.ring_core_spec.proofs.Windows.{held_bit, front_is, length-bytes_from_bits}
 use Rattle.ring_base.proofs.SameRing.{ring_same}
 use Rattle.ring_core_spec.specs.State.{Core}
 use Rattle.ring_core_spec.specs.Views.{front, mark, own_entry}
@@ -67,11 +67,11 @@ clear_sum : (b : Bool) (k : ℕ) → b ≡ false → k ≡ 0 → (if b then 1 el
 clear_sum true k e z = absurd (false≢true (sym e))
 clear_sum false k e z = omega (arith, z)
 
-clear_word : (test : ℕ → Bool) → ((n : ℕ) → test n ≡ false) → (first count : ℕ) → word_of test first count ≡ 0
+clear_word : (test : ℕ → Bool) → ((n : ℕ) → test n ≡ false) → (first count : ℕ) → word_from_test test first count ≡ 0
 clear_word test none first zero = refl
-clear_word test none first (suc count) = clear_sum (test first) (word_of test (suc first) count) (none first) (clear_word test none (suc first) count)
+clear_word test none first (suc count) = clear_sum (test first) (word_from_test test (suc first) count) (none first) (clear_word test none (suc first) count)
 
-clear_bytes : (test : ℕ → Bool) → ((n : ℕ) → test n ≡ false) → (first count : ℕ) → AreZero (bytes_of test first count)
+clear_bytes : (test : ℕ → Bool) → ((n : ℕ) → test n ≡ false) → (first count : ℕ) → AreZero (bytes_from_bits test first count)
 clear_bytes test none first zero = tt
 clear_bytes test none first (suc count) = (clear_word test none first 8, clear_bytes test none (first + 8) count)
 
@@ -94,7 +94,7 @@ module _ {A : Type 0} (c : Core A) (f : CoreFits c) where
   entry_fits =
       record {
         old = (f.installed).ring;
-        bits = length-bytes_of (holds c.held old) (front c old + 1) 32;
+        bits = length-bytes_from_bits (holds c.held old) (front c old + 1) 32;
         mark = mark_front;
         front = front_most c.held old f.held;
         window = elim (cases_lt 0 (front c old)) [

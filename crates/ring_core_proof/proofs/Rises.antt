@@ -3,11 +3,11 @@ use Rattle.std.proofs.Common.{◌≡◌, ℕ, ◌<◌, ◌≤◌, inl, inr, List
 use Rattle.ring_wire.specs.declared.frame.Frame.{Frame}
 use Rattle.ring_core_spec.specs.Commits.{Configuration}
 use Rattle.ring_core_spec.specs.declared.input.Input.{Input}
-use Rattle.ring_core_spec.specs.State.{Core, floor, alone, opening}
+use Rattle.ring_core_spec.specs.State.{Core, floor, opening_ring, opening}
 use Rattle.ring_core_spec.specs.Stepping.{after_inputs}
 use Rattle.ring_core_proof.specs.FactWords.{IsIn}
-use Rattle.ring_core_proof.specs.LawWords.{IsFalling}
-use Rattle.ring_core_proof.specs.Moves.{Move, Idles, Enters, Learns, Visits, Takes, Installs, moved, MayMove}
+use Rattle.ring_core_proof.specs.LawConditions.{IsFalling}
+use Rattle.ring_core_proof.specs.Moves.{Move, Idles, Enters, Learns, Visits, Takes, Installs, core_after_move, MayMove}
 use Rattle.ring_core_proof.proofs.KeptByMoves.{IsKeptByMoves, always}
 
 -- the running ring is the newest, and above all earlier rings
@@ -28,7 +28,7 @@ entered_rises c next h r =
           (next ∷ rings) in subst P (sym r.newest) (h, r.falls));
     }
 
-pub moved_rises : {A : Type 0} → (received : Frame A → Type 0) (c : Core A) (m : Move A) → MayMove received c m → Rising c → Rising (moved c m)
+pub moved_rises : {A : Type 0} → (received : Frame A → Type 0) (c : Core A) (m : Move A) → MayMove received c m → Rising c → Rising (core_after_move c m)
 moved_rises received c (Enters k) h r = entered_rises c (record { ring = k.ring; members = k.members }) h.above r
 moved_rises received c (Idles state gathering last_sent queue sends) h r = r
 moved_rises received c (Learns k) h r = r
@@ -47,7 +47,7 @@ pub falls_of : {A : Type 0} → (c : Core A) → Rising c → IsFalling c.rings
 falls_of c r = let P : List Configuration → Type 0 = λ rings. IsFalling rings in subst P (sym r.newest) r.falls
 
 pub rings_fall : {A : Type 0} → (n me : ℕ) (inputs : List (Input A)) → IsFalling (after_inputs (opening n me) inputs).rings
-rings_fall n me inputs = falls_of (after_inputs (opening n me) inputs) (always Rising rising (opening n me) inputs (alone_rises (alone me)))
+rings_fall n me inputs = falls_of (after_inputs (opening n me) inputs) (always Rising rising (opening n me) inputs (alone_rises (opening_ring me)))
 
 -- No ring is above the running one, and rings of one number are one ring
 

@@ -16,16 +16,16 @@ use Rattle.ring_core_spec.specs.Commits.{is_sound, Configuration, position_of_ho
 use Rattle.ring_core_spec.specs.declared.input.Input.TheVariants.{Frame as FrameInput}
 use Rattle.ring_base.specs.declared.state.State.{State}
 use Rattle.ring_base.specs.declared.state.State.TheVariants.{Gather, Commit, Recovery, Operational, Stopped}
-use Rattle.ring_core_spec.specs.State.{Core, floor, alone, frame_at}
+use Rattle.ring_core_spec.specs.State.{Core, floor, opening_ring, frame_at}
 use Rattle.ring_core_spec.specs.Naming.{is_named}
 use Rattle.ring_core_spec.specs.Views.{own_entry}
 use Rattle.ring_core_spec.specs.Visiting.{accepts}
-use Rattle.ring_core_spec.specs.Handing.{takes_first_round, takes_second_round, takes_start}
+use Rattle.ring_core_spec.specs.CommitSteps.{takes_first_round, takes_second_round, takes_start}
 use Rattle.ring_core_spec.specs.Deciding.{Transition, Ignore, decide, decide_round, decide_commit, decide_if_named}
 use Rattle.ring_core_proof.specs.declared.event.RingEvent.{RingEvent}
 use Rattle.ring_core_proof.specs.declared.event.RingEvent.TheVariants.{Send, Deliver, Timeout, Stop}
-use Rattle.ring_core_proof.specs.Worlds.{Transmission, World, is_node, happens, run, unformed}
-use Rattle.ring_core_proof.specs.LawWords.{IsFalling}
+use Rattle.ring_core_proof.specs.Worlds.{Transmission, World, is_node, world_after_event, run, unformed}
+use Rattle.ring_core_proof.specs.LawConditions.{IsFalling}
 use Rattle.ring_core_proof.specs.CommitRounds.{all_pairs, is_above, has_rising_rings, Taking, is_ignored, taken_unless}
 use Rattle.ring_core_proof.specs.CommitRounds.{taken_at, taken_if, taken_of, taken_in, takings, is_second, still_reports}
 use Rattle.ring_core_proof.specs.CommitRounds.{is_taken}
@@ -133,8 +133,8 @@ pub all_taken : {A : Type 0} → (w : World A) (events : List (RingEvent A)) →
 all_taken w [] = refl
 all_taken w (e ∷ events) =
     let xs = taken_in w e in
-    let ys = takings (happens w e) events in
-    list_all-append is_taken xs ys ∙ and_from (list_all is_taken xs) (list_all is_taken ys) (taken_in-all w e) (all_taken (happens w e) events)
+    let ys = takings (world_after_event w e) events in
+    list_all-append is_taken xs ys ∙ and_from (list_all is_taken xs) (list_all is_taken ys) (taken_in-all w e) (all_taken (world_after_event w e) events)
 
 -- Rings
 
@@ -156,7 +156,7 @@ all_numbers test h [] = refl
 all_numbers test h (i ∷ numbers) = and_from (test i) (list_all test numbers) (h i) (all_numbers test h numbers)
 
 pub rises_everywhere : {A : Type 0} → (n : ℕ) (events : List (RingEvent A)) → Everywhere Rising (run (unformed n) events)
-rises_everywhere n events = everywhere Rising rising (unformed n) events (λ i. alone_rises (alone i))
+rises_everywhere n events = everywhere Rising rising (unformed n) events (λ i. alone_rises (opening_ring i))
 
 pub all_rise : {A : Type 0} → (n : ℕ) (events : List (RingEvent A))
     → list_all (λ i. has_rising_rings ((run (unformed n) events).cores i)) (numbers_from 1 n) ≡ true

@@ -15,17 +15,17 @@ use Rattle.ring_core_spec.specs.declared.input.Input.{Input}
 use Rattle.ring_core_spec.specs.declared.input.Input.TheVariants.{Frame as FrameInput, Timeout as TimeInput, Send as SendInput}
 use Rattle.ring_core_spec.specs.declared.out.Out.{Out}
 use Rattle.ring_core_spec.specs.declared.out.Out.TheVariants.{Send as SendOut, Agreed, Safe, Trans, Rest, Regular}
-use Rattle.ring_core_spec.specs.State.{Core, OutgoingFrame, all_of, alone, opening, formed, halted, frame_at}
+use Rattle.ring_core_spec.specs.State.{Core, OutgoingFrame, formed_ring_of, opening_ring, opening, formed, halted, frame_at}
 use Rattle.ring_core_spec.specs.Visiting.{room_at}
-use Rattle.ring_core_spec.specs.Giving.{addressed}
+use Rattle.ring_core_spec.specs.Giving.{sends_with_receivers}
 use Rattle.ring_core_spec.specs.Deciding.{Visit}
 use Rattle.ring_core_spec.specs.Transitions.{apply_transition}
 use Rattle.ring_core_spec.specs.Stepping.{ring_step}
 use Rattle.ring_core_proof.specs.declared.event.RingEvent.{RingEvent}
 use Rattle.ring_core_proof.specs.declared.event.RingEvent.TheVariants.{Send, Deliver, Timeout, Stop}
 use Rattle.ring_core_proof.specs.Moves.{MayMove}
-use Rattle.ring_core_proof.specs.Worlds.{Transmission, World, put, transmission_by, is_node, stepped_if, stopped_if, handed_if, handed}
-use Rattle.ring_core_proof.specs.Worlds.{happens, run, unformed, ring_formed, acts_on_formed, run_formed}
+use Rattle.ring_core_proof.specs.Worlds.{Transmission, World, with_core, transmission_by, is_node, stepped_if, stopped_if, handed_if, handed}
+use Rattle.ring_core_proof.specs.Worlds.{world_after_event, run, unformed, ring_formed, has_effect_on_formed, run_formed}
 use Rattle.ring_core_proof.proofs.Ended.{installed_below}
 use Rattle.ring_core_proof.proofs.StepsAreMoves.{move_of, fresh_short, fresh_users, all_repeats, queue_kept}
 use Rattle.ring_core_proof.specs.Limits.{InputFits, EventFits, OutFits, RingFitsIn, CoreFits, WorldFits, SentFits}
@@ -35,11 +35,11 @@ use Rattle.ring_core_proof.proofs.TransitionLimits.{visited_fits, step_fits}
 
 -- Openings
 
-alone_fits : (me : ℕ) → 1 ≤ me → me ≤ 16 → RingFitsIn me (alone me)
+alone_fits : (me : ℕ) → 1 ≤ me → me ≤ 16 → RingFitsIn me (opening_ring me)
 alone_fits me low high =
     record { ring = record { seq = omega arith; rep = (low, high) }; members = only_lt me (low, high); mine = (only_members me me low).1 refl }
 
-all_fits : (n me : ℕ) → 1 ≤ me → me ≤ n → n ≤ 16 → RingFitsIn me (all_of n)
+all_fits : (n me : ℕ) → 1 ≤ me → me ≤ n → n ≤ 16 → RingFitsIn me (formed_ring_of n)
 all_fits n me low high most =
     record {
       ring = record { seq = omega arith; rep = (omega arith, omega arith) };
@@ -114,7 +114,7 @@ all_carried i [] h = tt
 all_carried i (o ∷ outs) h = one_carried i o (filter_map (transmission_by i) outs) h.0 (all_carried i outs h.1)
 
 module _ {A : Type 0} (w : World A) (f : WorldFits w) where
-  put_fits : (i : ℕ) (c : Core A) → CoreFits c → (j : ℕ) → 1 ≤ j → j ≤ w.total → CoreFits (put w.cores i c j)
+  put_fits : (i : ℕ) (c : Core A) → CoreFits c → (j : ℕ) → 1 ≤ j → j ≤ w.total → CoreFits (with_core w.cores i c j)
   put_fits i c h j low high = cond_both (j == i) c (w.cores j) CoreFits (λ e. h) (λ e. f.cores j low high)
 
   pub stepped_fits : (b : Bool) (i : ℕ) (input : Input A) → (b ≡ true → is_node w i ≡ true) → InputFits input → WorldFits (stepped_if b w i input)
@@ -143,7 +143,7 @@ module _ {A : Type 0} (w : World A) (f : WorldFits w) where
   handed_fits i zero (Some g) e = absurd (let x : ⊥ = cc in x)
   handed_fits i (suc m) (Some g) e = frame_fits (has g.to i) i g.frame (each-get (λ (g : Transmission A). FrameFits g.frame) w.frames m g f.frames e)
 
-  pub event_fits : (e : RingEvent A) → EventFits e → WorldFits (happens w e)
+  pub event_fits : (e : RingEvent A) → EventFits e → WorldFits (world_after_event w e)
   event_fits (Send i payload) h = stepped_fits (is_node w i) i (SendInput payload) (λ e. e) h
   event_fits (Deliver i m) h = handed_fits i m (frame_at w.frames m) refl
   event_fits (Timeout i kind) h = stepped_fits (is_node w i) i (TimeInput kind) (λ e. e) tt
@@ -151,7 +151,7 @@ module _ {A : Type 0} (w : World A) (f : WorldFits w) where
 
 pub run_fits : {A : Type 0} → (w : World A) (events : List (RingEvent A)) → Each EventFits events → WorldFits w → WorldFits (run w events)
 run_fits w [] h f = f
-run_fits w (e ∷ events) h f = run_fits (happens w e) events h.1 (event_fits w f e h.0)
+run_fits w (e ∷ events) h f = run_fits (world_after_event w e) events h.1 (event_fits w f e h.0)
 
 -- Both openings
 
@@ -159,7 +159,7 @@ pub unformed_fits : {A : Type 0} → (n : ℕ) (events : List (RingEvent A)) →
 unformed_fits n events most h = run_fits (unformed n) events h (record { cores = λ i low high. opening_fits n i low high most; frames = tt })
 
 abbrev first_of : ℕ → Token
-first_of n = first_token (all_of n).ring
+first_of n = first_token (formed_ring_of n).ring
 
 start_visits : {A : Type 0} → (n : ℕ) → MayMove {A = A} (λ frame. Unit {0}) (formed n 1) (move_of (formed n 1) (Visit (first_of n)))
 start_visits {A} n =
@@ -178,7 +178,7 @@ start_visits {A} n =
     }
 
 start_goes : (n : ℕ) → MayGo (first_of n)
-start_goes n = first_goes (all_of n).ring (record { seq = omega arith; rep = (omega arith, omega arith) }) (omega arith)
+start_goes n = first_goes (formed_ring_of n).ring (record { seq = omega arith; rep = (omega arith, omega arith) }) (omega arith)
 
 pub start_fits : {A : Type 0} → (n : ℕ) → 1 ≤ n → n ≤ 16 → WorldFits {A = A} (ring_formed n)
 start_fits {A} n low most =
@@ -188,9 +188,9 @@ start_fits {A} n low most =
     let carry : OutgoingFrame A → Transmission A = λ s. record { from = 1; to = s.to; frame = s.frame } in
     record {
       cores = λ i l h. cond_both (i == 1) d.core (formed n i) CoreFits (λ e. v.core) (λ e. formed_fits n i l h most);
-      frames = each-map (λ (g : Transmission A). FrameFits g.frame) carry (addressed d.sends) (each-filter SentFits (λ s. not (s.to == nobody)) d.sends v.sends);
+      frames = each-map (λ (g : Transmission A). FrameFits g.frame) carry (sends_with_receivers d.sends) (each-filter SentFits (λ s. not (s.to == nobody)) d.sends v.sends);
     }
 
 pub formed_run_fits : {A : Type 0} → (n : ℕ) (events : List (RingEvent A)) → 1 ≤ n → n ≤ 16 → Each EventFits events → WorldFits (run_formed n events)
 formed_run_fits n events low most h =
-    run_fits (ring_formed n) (filter acts_on_formed events) (each-filter EventFits acts_on_formed events h) (start_fits n low most)
+    run_fits (ring_formed n) (filter has_effect_on_formed events) (each-filter EventFits has_effect_on_formed events h) (start_fits n low most)

@@ -9,7 +9,7 @@ use Rattle.ring_base.specs.Members.{has_member, nobody_member, only_members, uni
 use Rattle.ring_wire.specs.declared.join.Join.{Join}
 use Rattle.ring_wire.specs.Joins.{JoinFits}
 use Rattle.ring_core_spec.specs.Joins.{Gathering, is_own_or_failed, has_same_sets, has_smaller_sets, gathering_opening, own_join}
-use Rattle.ring_core_spec.specs.Joins.{join_effect, agreed, merged_fail_set, sets_merged, join_merged, senders, agreeing, candidates, silent_given_up, JoinEffect}
+use Rattle.ring_core_spec.specs.Joins.{join_effect, with_agreement, merged_fail_set, sets_merged, join_merged, senders_of_joins, agreeing, candidates, silent_given_up, JoinEffect}
 use Rattle.ring_core_spec.specs.Joins.{Ignored, Agrees, Merges}
 use Rattle.ring_core_proof.specs.Limits.{GatheringFits}
 
@@ -33,7 +33,7 @@ pub entered_fits : (me set : ℕ) → set < 2 ^ 16 → IsMember set me → Gathe
 entered_fits me set lt mine =
     record { proc_set = lt; fail_set = omega arith; mine = mine; alive = λ m. nobody_member me m; failed_in = λ i m. absurd (nobody_member i m) }
 
-pub agreed_fits : (me : ℕ) (g : Gathering) (j : Join) → GatheringFits me g → GatheringFits me (agreed g j)
+pub agreed_fits : (me : ℕ) (g : Gathering) (j : Join) → GatheringFits me g → GatheringFits me (with_agreement g j)
 agreed_fits me g j f = record { proc_set = f.proc_set; fail_set = f.fail_set; mine = f.mine; alive = f.alive; failed_in = f.failed_in }
 
 pub given_up_fits : (me : ℕ) (g : Gathering) → 1 ≤ me → GatheringFits me g → GatheringFits me (silent_given_up me g)
@@ -50,7 +50,7 @@ given_up_fits me g low f =
         | inl old ↦ f.alive old
         | inr new ↦
             ((less_members (candidates g) (agreeing me g) me).0 new).1
-            ((union_members (only me) (senders g.counted_joins) me).1 (inl ((only_members me me low).1 refl)))
+            ((union_members (only me) (senders_of_joins g.counted_joins) me).1 (inl ((only_members me me low).1 refl)))
       ];
       failed_in = λ i m. elim ((union_members g.fail_set out i).0 m) [
         | inl old ↦ f.failed_in i old
@@ -102,7 +102,7 @@ widened_fits me g j other fit f =
       alive = fails.alive;
       failed_in = fails.within;
     } in
-    cond_both (has_same_sets w j) (agreed w j) w (GatheringFits me) (λ e. agreed_fits me w j sets) (λ e. sets)
+    cond_both (has_same_sets w j) (with_agreement w j) w (GatheringFits me) (λ e. agreed_fits me w j sets) (λ e. sets)
 
 -- a join that widens the sets is another processor's
 pub widens_other : (me : ℕ) (g : Gathering) (j : Join) → join_effect me g j ≡ Merges → me ≡ j.sender → ⊥

@@ -13,7 +13,7 @@ use Rattle.ring_base.specs.Processors.{has, at, size, smallest}
 use Rattle.ring_base.specs.declared.state.State.{State}
 use Rattle.ring_base.specs.declared.state.State.TheVariants.{Gather, Commit, Recovery, Operational, Stopped}
 use Rattle.ring_base.proofs.Each.{each-push, each-filter_map}
-use Rattle.ring_payload.specs.Kinds.{is_user}
+use Rattle.ring_payload.specs.PayloadKinds.{is_user}
 use Rattle.ring_payload.specs.Packing.{is_queued}
 use Rattle.ring_payload.proofs.Packing.{packed_payloads-users, user-queued, unpacked_rest-each}
 use Rattle.ring_payload.specs.declared.content.Payload.{Payload}
@@ -25,25 +25,25 @@ use Rattle.ring_wire.specs.declared.token.Token.{Token}
 use Rattle.ring_core_spec.specs.Windows.{found, highest}
 use Rattle.ring_base.proofs.SameRing.{ring_same}
 use Rattle.ring_core_spec.specs.Tokens.{first_token, is_newer, above_mark}
-use Rattle.ring_core_spec.specs.Joins.{Gathering, AllSaySame, candidates, new_number, has_consensus, own_join, agreed, join_merged, silent_given_up}
+use Rattle.ring_core_spec.specs.Joins.{Gathering, AllHaveOwnSets, candidates, new_number, has_consensus, own_join, with_agreement, join_merged, silent_given_up}
 use Rattle.ring_core_spec.specs.Commits.{position_of_hop, receiver, is_of, is_own, is_sound}
 use Rattle.ring_core_spec.specs.Recoveries.{is_ready, is_complete}
 use Rattle.ring_core_spec.specs.declared.input.Input.{Input}
 use Rattle.ring_core_spec.specs.declared.input.Input.TheVariants.{Frame as FrameInput}
 use Rattle.ring_core_spec.specs.State.{Core, OutgoingFrame, TransitionResult, floor}
 use Rattle.ring_core_spec.specs.Views.{mark, own_entry, plan, takes_number}
-use Rattle.ring_core_spec.specs.Visiting.{repeated, room_at, offers, new_payloads, held_after, requests_of, queue_after}
+use Rattle.ring_core_spec.specs.Visiting.{messages_sent_again, room_at, payloads_to_send, new_payloads, held_after, requests_of, queue_after}
 use Rattle.ring_core_spec.specs.Joining.{gather_entered, with_gathering, join_announcement, join_invitation, proposes, proposes_in}
-use Rattle.ring_core_spec.specs.Giving.{ready_then_complete, installs_in, may_install, delivered}
+use Rattle.ring_core_spec.specs.Giving.{ready_then_complete, installs_in, may_install, step_result}
 use Rattle.ring_core_spec.specs.Deciding.{Transition, Ignore, Enqueue, Repeat, Announce, Invite, GiveUp, EnterGather, Agree, MergeJoin}
 use Rattle.ring_core_spec.specs.Deciding.{EnterGatherAndAgree, EnterGatherAndMergeJoin, Take, Visit, Fill, Learn, takes_of, members_of}
-use Rattle.ring_core_spec.specs.Deciding.{decide_user, decide_payload, decide}
-use Rattle.ring_core_spec.specs.Transitions.{last_sent_repeated, apply_transition, may_propose_after, with_proposal_if, done}
+use Rattle.ring_core_spec.specs.Deciding.{decide_in_operational, decide_payload, decide}
+use Rattle.ring_core_spec.specs.Transitions.{last_sent_repeated, apply_transition, may_propose_after, with_proposal_if, transition_and_proposal}
 use Rattle.ring_core_spec.specs.Stepping.{ring_step}
 use Rattle.ring_core_spec.proofs.States.{installs_recovering, proposes_gathering, offers_few}
-use Rattle.ring_core_proof.specs.LawWords.{HasPassed, IsInputOf}
+use Rattle.ring_core_proof.specs.LawConditions.{HasPassed, IsInputOf}
 use Rattle.ring_core_proof.specs.FactWords.{IsIn}
-use Rattle.ring_core_proof.specs.Moves.{Move, Idles, Enters, Learns, Visits, Takes, moved, did, AllAreUsers, IsRepeated}
+use Rattle.ring_core_proof.specs.Moves.{Move, Idles, Enters, Learns, Visits, Takes, core_after_move, move_result, AllAreUsers, IsRepeated}
 use Rattle.ring_core_proof.specs.Moves.{MayIdle, MayEnter, AreWraps, IsStart, TakesFrom, TakesLate, MayInstall, MayMove}
 use Rattle.ring_core_proof.specs.Moves.{after_moves, all_sends, MayAll, IsMoved}
 use Rattle.ring_core_proof.proofs.Guards.{guarded}
@@ -68,18 +68,18 @@ move_of c Announce = idle c c.gathering (join_announcement c ∷ [])
 move_of c Invite = idle c c.gathering (join_invitation c ∷ [])
 move_of c GiveUp = idle c (silent_given_up c.me c.gathering) (join_announcement (with_gathering c (silent_given_up c.me c.gathering)) ∷ [])
 move_of c EnterGather = leave c (gather_entered c).gathering
-move_of c (Agree j) = idle c (agreed c.gathering j) []
+move_of c (Agree j) = idle c (with_agreement c.gathering j) []
 move_of c (MergeJoin j) = idle c (join_merged c.me c.gathering j) (join_announcement (with_gathering c (join_merged c.me c.gathering j)) ∷ [])
-move_of c (EnterGatherAndAgree j) = leave c (agreed (gather_entered c).gathering j)
+move_of c (EnterGatherAndAgree j) = leave c (with_agreement (gather_entered c).gathering j)
 move_of c (EnterGatherAndMergeJoin j) = leave c (join_merged c.me (gather_entered c).gathering j)
 move_of c (Take x) = Takes x
 move_of c (Visit t) = Visits t (new_payloads c t)
-    (requests_of c t (held_after c t) (t.seq + length (new_payloads c t))) (repeated c t)
+    (requests_of c t (held_after c t) (t.seq + length (new_payloads c t))) (messages_sent_again c t)
     (queue_after c.state (room_at c t) c.queue)
 move_of c (Fill k) = Enters k
 move_of c (Learn k) = Learns k
 
-pub acted : {A : Type 0} → (c : Core A) (a : Transition A) → apply_transition c a ≡ did c (move_of c a)
+pub acted : {A : Type 0} → (c : Core A) (a : Transition A) → apply_transition c a ≡ move_result c (move_of c a)
 acted c Ignore = refl
 acted c (Enqueue p) = refl
 acted c Repeat = refl
@@ -102,7 +102,7 @@ abbrev pub IsAsked : {A : Type 0} → Transition A → Type 0
 IsAsked (Enqueue p) = is_user p ≡ true
 IsAsked _ = Unit {0}
 
-asked_user : {A : Type 0} → (q : Payload A) → IsAsked (decide_user q)
+asked_user : {A : Type 0} → (q : Payload A) → IsAsked (decide_in_operational q)
 asked_user q = cond_both (is_queued q) (Enqueue q) Ignore (λ a. IsAsked a) (λ e. user-queued q e) (λ e. tt)
 
 asked_payload : {A : Type 0} → (s : State) (q : Payload A) → IsAsked (decide_payload s q)
@@ -135,11 +135,11 @@ shown_repeats : {A : Type 0} → (last_sent : Option (OutgoingFrame A)) → Each
 shown_repeats None = tt
 shown_repeats (Some s) = (inl refl, tt)
 
-idles : {A : Type 0} → (c : Core A) (g : Gathering) (sends : List (OutgoingFrame A)) → (AllSaySame c.gathering → AllSaySame g) → Each (IsRepeated c.last_sent) sends →
+idles : {A : Type 0} → (c : Core A) (g : Gathering) (sends : List (OutgoingFrame A)) → (AllHaveOwnSets c.gathering → AllHaveOwnSets g) → Each (IsRepeated c.last_sent) sends →
     MayIdle c c.state g c.last_sent c.queue sends
 idles c g sends h s = record { leaves = inl refl; joins = h; shows = inr refl; queued = λ q. q; sent = s }
 
-leaves : {A : Type 0} → (c : Core A) (g : Gathering) → AllSaySame g → MayIdle c Gather g None [] (join_announcement (with_gathering (gather_entered c) g) ∷ [])
+leaves : {A : Type 0} → (c : Core A) (g : Gathering) → AllHaveOwnSets g → MayIdle c Gather g None [] (join_announcement (with_gathering (gather_entered c) g) ∷ [])
 leaves c g h = record { leaves = inr (inl refl); joins = λ a. h; shows = inl refl; queued = λ q. tt; sent = (inr (own_join c.me (floor c) g, refl), tt) }
 
 -- Visiting
@@ -152,10 +152,10 @@ pub fresh_short : {A : Type 0} → (c : Core A) (t : Token) → length (new_payl
 fresh_short c t = omega (arith, fresh_few c t)
 
 pub fresh_users : {A : Type 0} → (c : Core A) (t : Token) → c.state ≡ Operational → AllAreUsers c.queue → AllAreUsers (new_payloads c t)
-fresh_users c t s h = subst (λ s. AllAreUsers (offers s c (room_at c t))) (sym s) (packed_payloads-users (room_at c t) c.queue h)
+fresh_users c t s h = subst (λ s. AllAreUsers (payloads_to_send s c (room_at c t))) (sym s) (packed_payloads-users (room_at c t) c.queue h)
 
 fresh_wraps : {A : Type 0} → (c : Core A) (t : Token) → c.state ≡ Recovery → AreWraps c (new_payloads c t)
-fresh_wraps c t s = subst (λ s. AreWraps c (offers s c (room_at c t))) (sym s) (are_wraps c (room_at c t))
+fresh_wraps c t s = subst (λ s. AreWraps c (payloads_to_send s c (room_at c t))) (sym s) (are_wraps c (room_at c t))
 
 -- a property of each queued payload holds for each that is left after a visit
 pub queue_each : {A : Type 0} → (P : Payload A → Type 0) (s : State) (n : ℕ) (queue : List (Payload A)) → Each P queue → Each P (queue_after s n queue)
@@ -168,7 +168,7 @@ queue_each P Stopped n queue h = h
 pub queue_kept : {A : Type 0} → (s : State) (n : ℕ) (queue : List (Payload A)) → AllAreUsers queue → AllAreUsers (queue_after s n queue)
 queue_kept {A} s n queue h = queue_each (λ (p : Payload A). is_user p ≡ true) s n queue h
 
-pub all_repeats : {A : Type 0} → (c : Core A) (t : Token) → Each (λ (x : Message A). IsIn x c.held) (repeated c t)
+pub all_repeats : {A : Type 0} → (c : Core A) (t : Token) → Each (λ (x : Message A). IsIn x c.held) (messages_sent_again c t)
 all_repeats {A} c t =
     each-filter_map (λ n. Unit {0}) (λ (x : Message A). IsIn x c.held) (found c.held t.ring) (λ n x h e. (found_in c.held t.ring n x e).0)
     (above_mark (mark c t.ring) t.requests) (each-in _ _ (λ n i. tt))
@@ -275,10 +275,10 @@ may_act c input Announce g h u = idles c c.gathering (join_announcement c ∷ []
 may_act c input Invite g h u = idles c c.gathering (join_invitation c ∷ []) (λ a. a) (inr (_, refl), tt)
 may_act c input GiveUp g h u = idles c (silent_given_up c.me c.gathering) _ (λ a. tt) (inr (own_join c.me (floor c) (silent_given_up c.me c.gathering), refl), tt)
 may_act c input EnterGather g h u = leaves c (gather_entered c).gathering tt
-may_act c input (Agree j) g h u = idles c (agreed c.gathering j) [] (agreed_same c.me c.gathering j g.1) tt
+may_act c input (Agree j) g h u = idles c (with_agreement c.gathering j) [] (agreed_same c.me c.gathering j g.1) tt
 may_act c input (MergeJoin j) g h u = idles c (join_merged c.me c.gathering j) _ (λ a. widened_same c.me c.gathering j)
     (inr (own_join c.me (floor c) (join_merged c.me c.gathering j), refl), tt)
-may_act c input (EnterGatherAndAgree j) g h u = leaves c (agreed (gather_entered c).gathering j) (agreed_same c.me (gather_entered c).gathering j g.effect_is tt)
+may_act c input (EnterGatherAndAgree j) g h u = leaves c (with_agreement (gather_entered c).gathering j) (agreed_same c.me (gather_entered c).gathering j g.effect_is tt)
 may_act c input (EnterGatherAndMergeJoin j) g h u = leaves c (join_merged c.me (gather_entered c).gathering j) (widened_same c.me (gather_entered c).gathering j)
 may_act c input (Take x) g h u = takes c input x g h
 may_act c input (Visit t) g h u = visits c input t g h
@@ -329,19 +329,19 @@ record DoneBy {A : Type 0} (c : Core A) (input : Input A) (d : TransitionResult 
   pub is : d ≡ record { core = after_moves c moves; sends = all_sends c moves }
 
 then_proposed : {A : Type 0} → (c : Core A) (input : Input A) (m : Move A) → MayMove (λ frame. input ≡ FrameInput frame) c m → (b : Bool) →
-    (b ≡ true → proposes (moved c m) ≡ true) → DoneBy c input (with_proposal_if b (did c m))
+    (b ≡ true → proposes (core_after_move c m) ≡ true) → DoneBy c input (with_proposal_if b (move_result c m))
 then_proposed c input m h false p = record { moves = m ∷ []; few = omega arith; may = (h, tt); is = rw append-nil refl }
 then_proposed c input m h true p =
-    record { moves = m ∷ Enters (proposed_token (moved c m)) ∷ []; few = omega arith; may = (h, (may_propose _ (moved c m) (p refl), tt)); is = refl }
+    record { moves = m ∷ Enters (proposed_token (core_after_move c m)) ∷ []; few = omega arith; may = (h, (may_propose _ (core_after_move c m) (p refl), tt)); is = refl }
 
-done_moves : {A : Type 0} → (c : Core A) (input : Input A) (a : Transition A) → MayMove (λ frame. input ≡ FrameInput frame) c (move_of c a) → DoneBy c input (done c a)
+done_moves : {A : Type 0} → (c : Core A) (input : Input A) (a : Transition A) → MayMove (λ frame. input ≡ FrameInput frame) c (move_of c a) → DoneBy c input (transition_and_proposal c a)
 done_moves c input a h =
     subst (λ d. DoneBy c input (with_proposal_if (may_propose_after a && proposes d.core) d)) (sym (acted c a))
-    (then_proposed c input (move_of c a) h (may_propose_after a && proposes (moved c (move_of c a))) (λ e. (and_parts (may_propose_after a) _ e).1))
+    (then_proposed c input (move_of c a) h (may_propose_after a && proposes (core_after_move c (move_of c a))) (λ e. (and_parts (may_propose_after a) _ e).1))
 
 pub step_moves : {A : Type 0} → (c : Core A) (input : Input A) → IsMoved c input
 unfolding ring_step
 step_moves c input =
     let a = decide c input in
     let d = done_moves c input a (may_act c input a (guarded c input) (caused c input) (asked_by c input a refl (caused c input))) in
-    record { moves = d.moves; few = d.few; may = d.may; step = ap (delivered c) d.is; installs = may_installs (after_moves c d.moves) }
+    record { moves = d.moves; few = d.few; may = d.may; step = ap (step_result c) d.is; installs = may_installs (after_moves c d.moves) }

@@ -6,7 +6,7 @@ use Rattle.std.specs.Prelude.{nat_lt, nat_le, reverse, not, take}
 use Rattle.std.specs.List.{AllByRecursion as Each}
 use Rattle.std.proofs.lemmas.Bool.{cond_both, and_parts, eqb-true, ltb-true, leb-true}
 use Rattle.ring_base.proofs.Taking.{smallest_some}
-use Rattle.ring_base.specs.Numbers.{max_number, merged}
+use Rattle.ring_base.specs.Numbers.{max_number, merged_ascending}
 use Rattle.ring_base.specs.Processors.{IsMember, nobody, only, everybody, size, smallest, less}
 use Rattle.ring_base.specs.Members.{everybody_members}
 use Rattle.ring_base.specs.Elements.{at_member}
@@ -14,7 +14,7 @@ use Rattle.ring_base.specs.Rings.{same_ring}
 use Rattle.ring_base.specs.declared.ring_id.RingId.{RingId}
 use Rattle.ring_base.specs.declared.state.State.TheVariants.{Operational}
 use Rattle.ring_base.proofs.Each.{each-weaker, each-append, each-push, each-map, each-reverse, each-filter}
-use Rattle.ring_payload.specs.Kinds.{is_user}
+use Rattle.ring_payload.specs.PayloadKinds.{is_user}
 use Rattle.ring_payload.specs.Payloads.{PayloadFits}
 use Rattle.ring_payload.proofs.Packing.{packed_payloads-fits}
 use Rattle.ring_payload.specs.declared.content.Payload.{Payload}
@@ -31,7 +31,7 @@ use Rattle.ring_wire.specs.declared.message.Message.{Message}
 use Rattle.ring_wire.specs.declared.token.Token.{Token}
 use Rattle.ring_core_spec.specs.Windows.{holds, highest, missing}
 use Rattle.ring_core_spec.specs.Tokens.{is_newer, requests_left}
-use Rattle.ring_core_spec.specs.Joins.{Gathering, gathering_opening, agreed, join_merged, silent_given_up, candidates, new_number, has_consensus}
+use Rattle.ring_core_spec.specs.Joins.{Gathering, gathering_opening, with_agreement, join_merged, silent_given_up, candidates, new_number, has_consensus}
 use Rattle.ring_core_spec.specs.Commits.{receiver, hop_with_entries}
 use Rattle.ring_core_spec.specs.declared.input.Input.{Input}
 use Rattle.ring_core_spec.specs.declared.input.Input.TheVariants.{Frame as FrameInput}
@@ -39,16 +39,16 @@ use Rattle.ring_core_spec.specs.declared.out.Out.{Out}
 use Rattle.ring_core_spec.specs.declared.out.Out.TheVariants.{Send as SendOut, Agreed, Safe, Trans, Rest, Regular}
 use Rattle.ring_core_spec.specs.State.{Core, OutgoingFrame, TransitionResult, floor}
 use Rattle.ring_core_spec.specs.Views.{mark, own_entry}
-use Rattle.ring_core_spec.specs.Visiting.{offers, room_at, new_payloads, new_messages, repeated, held_after, requests_of, token_forwarded, to_others, to_next}
+use Rattle.ring_core_spec.specs.Visiting.{payloads_to_send, room_at, new_payloads, new_messages, messages_sent_again, held_after, requests_of, token_forwarded, to_others, to_next}
 use Rattle.ring_core_spec.specs.Joining.{first_procs, gather_entered, with_gathering, join_announcement, proposes, proposes_in}
-use Rattle.ring_core_spec.specs.Handing.{commit_sent_on, ring_joined, after_proposal}
-use Rattle.ring_core_spec.specs.Giving.{addressed, sent, may_install, install, given, installation_outputs, settle}
+use Rattle.ring_core_spec.specs.CommitSteps.{commit_sent_on, ring_joined, after_proposal}
+use Rattle.ring_core_spec.specs.Giving.{sends_with_receivers, sent, may_install, install, agreed_and_safe_of_step, installation_outputs, with_installation_if}
 use Rattle.ring_core_spec.specs.Deciding.{Transition, Ignore, Enqueue, Repeat, Announce, Invite, GiveUp, EnterGather, Agree, MergeJoin}
 use Rattle.ring_core_spec.specs.Deciding.{EnterGatherAndAgree, EnterGatherAndMergeJoin, Take, Visit, Fill, Learn, decide}
-use Rattle.ring_core_spec.specs.Transitions.{old_ring_messages, last_sent_repeated, apply_transition, may_propose_after, with_proposal_if, done}
+use Rattle.ring_core_spec.specs.Transitions.{old_ring_messages, last_sent_repeated, apply_transition, may_propose_after, with_proposal_if, transition_and_proposal}
 use Rattle.ring_core_spec.specs.Stepping.{ring_step}
 use Rattle.ring_core_proof.specs.FactWords.{IsIn}
-use Rattle.ring_core_proof.specs.LawWords.{HasPassed, IsInputOf}
+use Rattle.ring_core_proof.specs.LawConditions.{HasPassed, IsInputOf}
 use Rattle.ring_core_proof.specs.Moves.{Enters, Learns, Takes, MayEnter, MayMove}
 use Rattle.ring_core_proof.specs.WindowBounds.{HasRingOrder}
 use Rattle.ring_core_proof.proofs.Causes.{caused}
@@ -159,7 +159,7 @@ module _ {A : Type 0} (c : Core A) (f : CoreFits c) where
     room_kept = (let few = fresh_few c t in let seq : t.seq ≤ max_number = goes.seq in omega (arith, few, seq))
 
     queued_carry : c.state ≡ Operational → Each PayloadFits fresh
-    queued_carry o = subst (λ s. Each PayloadFits (offers s c (room_at c t))) (sym o) (packed_payloads-fits (room_at c t) c.queue f.queue.each)
+    queued_carry o = subst (λ s. Each PayloadFits (payloads_to_send s c (room_at c t))) (sym o) (packed_payloads-fits (room_at c t) c.queue f.queue.each)
 
     carry : Each (MayCarry t.ring) fresh
     carry =
@@ -173,22 +173,22 @@ module _ {A : Type 0} (c : Core A) (f : CoreFits c) where
     new_fit : Each MessageFits (new_messages c t)
     new_fit = numbered_fit t.ring c.me t.seq fresh goes.ring goes.ring_counted f.me room_kept carry
 
-    again_fit : Each MessageFits (repeated c t)
-    again_fit = each-weaker (λ (x : Message A). IsIn x c.held) MessageFits (λ x i. in-each MessageFits x c.held f.held i) (repeated c t) (all_repeats c t)
+    again_fit : Each MessageFits (messages_sent_again c t)
+    again_fit = each-weaker (λ (x : Message A). IsIn x c.held) MessageFits (λ x i. in-each MessageFits x c.held f.held i) (messages_sent_again c t) (all_repeats c t)
 
     forwarded_fits : TokenFits (token_forwarded c t)
     forwarded_fits =
         let seq = t.seq + length fresh in
         let remaining_requests = requests_left (mark c t.ring) (holds c.held t.ring) t.requests in
         let lacks = missing (held_after c t) t.ring (mark c t.ring) seq in
-        let few : length (take 32 (merged remaining_requests lacks)) ≡ min 32 (length (merged remaining_requests lacks)) = length-take 32 (merged remaining_requests lacks) in
+        let few : length (take 32 (merged_ascending remaining_requests lacks)) ≡ min 32 (length (merged_ascending remaining_requests lacks)) = length-take 32 (merged_ascending remaining_requests lacks) in
         token_fits c.me _ (length fresh) (requests_of c t (held_after c t) seq) t f.me goes (front_within c t fresh v.ahead) room_kept (omega (arith, few))
         (requests_climb (held_after c t) t.ring (mark c t.ring) (holds c.held t.ring) t.requests t.seq seq (omega arith) goes.each)
 
     pub visited_fits : ActFits (apply_transition c (Visit t))
     visited_fits =
         let p = moved_placed received c (move_of c (Visit t)) v f.placed in
-        let xs = repeated c t ++ new_messages c t in
+        let xs = messages_sent_again c t ++ new_messages c t in
         record {
           core = record {
             me = f.me;
@@ -206,7 +206,7 @@ module _ {A : Type 0} (c : Core A) (f : CoreFits c) where
           };
           sends = each-append SentFits (to_others c xs) (to_next c (token_forwarded c t) ∷ [])
               (each-map SentFits (λ x. record { to = less c.running.members (only c.me); frame = MessageFrame x }) xs
-              (each-append MessageFits (repeated c t) (new_messages c t) again_fit new_fit))
+              (each-append MessageFits (messages_sent_again c t) (new_messages c t) again_fit new_fit))
               (forwarded_fits, tt);
         }
 
@@ -327,10 +327,10 @@ module _ {A : Type 0} (c : Core A) (f : CoreFits c) (input : Input A) (w : Input
       record { core = f; sends = (invite_fits c.me (floor c) c.running.members f.me (floor_most c f) f.running.members f.running.mine, tt) }
   acted_fits GiveUp g h u v = joins c f (silent_given_up c.me c.gathering) (given_up_fits c.me c.gathering f.me.0 f.gathering)
   acted_fits EnterGather g h u v = record { core = regathered_fits c f; sends = (announced_fits (gather_entered c) (regathered_fits c f), tt) }
-  acted_fits (Agree j) g h u v = record { core = with_sets c f (agreed c.gathering j) (agreed_fits c.me c.gathering j f.gathering); sends = tt }
+  acted_fits (Agree j) g h u v = record { core = with_sets c f (with_agreement c.gathering j) (agreed_fits c.me c.gathering j f.gathering); sends = tt }
   acted_fits (MergeJoin j) g h u v = widens c f j (subst InputFits h w) (widens_other c.me c.gathering j g.1)
   acted_fits (EnterGatherAndAgree j) g h u v =
-      joins (gather_entered c) (regathered_fits c f) (agreed (gather_entered c).gathering j) (agreed_fits c.me (gather_entered c).gathering j (first_fits c f))
+      joins (gather_entered c) (regathered_fits c f) (with_agreement (gather_entered c).gathering j) (agreed_fits c.me (gather_entered c).gathering j (first_fits c f))
   acted_fits (EnterGatherAndMergeJoin j) g h u v =
       widens (gather_entered c) (regathered_fits c f) j (subst InputFits h w) (widens_other c.me (gather_entered c).gathering j g.effect_is)
   acted_fits (Take x) g h u v = record { core = taken_fits c f Came x (subst InputFits h w) v; sends = tt }
@@ -363,7 +363,7 @@ then_proposed d true p f =
     (let next = proposed_fits d.core f.core (p refl) in
     record { core = next.core; sends = each-append SentFits d.sends (after_proposal d.core).sends f.sends next.sends })
 
-pub done_fits : {A : Type 0} → (c : Core A) (input : Input A) → CoreFits c → InputFits input → ActFits (done c (decide c input))
+pub done_fits : {A : Type 0} → (c : Core A) (input : Input A) → CoreFits c → InputFits input → ActFits (transition_and_proposal c (decide c input))
 done_fits c input f w =
     let a = decide c input in
     let v = may_act c input a (guarded c input) (caused c input) (asked_by c input a refl (caused c input)) in
@@ -400,14 +400,14 @@ told_fits (Rest ring n x) h = tt
 told_fits (Regular ring set) h = tt
 
 sent_fit : {A : Type 0} → (sends : List (OutgoingFrame A)) → Each SentFits sends → Each OutFits (sent sends)
-sent_fit sends h = each-map OutFits (λ s. SendOut s.to s.frame) (addressed sends) (each-filter SentFits (λ s. not (s.to == nobody)) sends h)
+sent_fit sends h = each-map OutFits (λ s. SendOut s.to s.frame) (sends_with_receivers sends) (each-filter SentFits (λ s. not (s.to == nobody)) sends h)
 
 pub record StepFits {A : Type 0} (c : Core A) (given : List (Out A)) : Type 0 where
   pub core : CoreFits c
   pub outs : Each OutFits given
 
 settled_fits : {A : Type 0} → (c : Core A) (outs : List (Out A)) (b : Bool) → (b ≡ true → may_install c ≡ true) → CoreFits c → Each OutFits outs →
-    StepFits (settle b c outs).core (settle b c outs).outs
+    StepFits (with_installation_if b c outs).core (with_installation_if b c outs).outs
 settled_fits c outs false i f h = record { core = f; outs = h }
 settled_fits c outs true i f h =
     let told = each-weaker IsTold OutFits told_fits (installation_outputs c) (told_configured c) in
@@ -416,8 +416,8 @@ settled_fits c outs true i f h =
 pub step_fits : {A : Type 0} → (c : Core A) (input : Input A) → CoreFits c → InputFits input → StepFits (ring_step c input).core (ring_step c input).outs
 unfolding ring_step
 step_fits c input f w =
-    let d = done c (decide c input) in
+    let d = transition_and_proposal c (decide c input) in
     let h = done_fits c input f w in
-    let told = each-weaker IsTold OutFits told_fits (given c d.core) (told_from d.core c.installed.ring _ _) in
-    settled_fits d.core (sent d.sends ++ given c d.core) (may_install d.core) (λ e. e) h.core
-    (each-append OutFits (sent d.sends) (given c d.core) (sent_fit d.sends h.sends) told)
+    let told = each-weaker IsTold OutFits told_fits (agreed_and_safe_of_step c d.core) (told_from d.core c.installed.ring _ _) in
+    settled_fits d.core (sent d.sends ++ agreed_and_safe_of_step c d.core) (may_install d.core) (λ e. e) h.core
+    (each-append OutFits (sent d.sends) (agreed_and_safe_of_step c d.core) (sent_fit d.sends h.sends) told)

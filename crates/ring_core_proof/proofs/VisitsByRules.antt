@@ -17,8 +17,8 @@ use Rattle.ring_core_spec.specs.declared.input.Input.{Input}
 use Rattle.ring_core_spec.specs.State.{Core, opening}
 use Rattle.ring_core_spec.specs.Transitions.{old_ring_messages}
 use Rattle.ring_core_spec.specs.Stepping.{after_inputs}
-use Rattle.ring_core_proof.specs.LawWords.{AreTurnsOf}
-use Rattle.ring_core_proof.specs.Moves.{Move, Idles, Enters, Learns, Visits, Takes, Installs, held_in, turn_with, moved, MayMove}
+use Rattle.ring_core_proof.specs.LawConditions.{AreTurnsOf}
+use Rattle.ring_core_proof.specs.Moves.{Move, Idles, Enters, Learns, Visits, Takes, Installs, held_in, turn_with, core_after_move, MayMove}
 use Rattle.ring_core_proof.proofs.KeptByMoves.{IsKeptByMoves, always}
 use Rattle.ring_core_proof.proofs.WithinWindow.{front-append}
 
@@ -86,7 +86,7 @@ visited_turned c t fresh requests a h =
 took_turned : {A : Type 0} → (c : Core A) (x : Message A) → Turned c → AreTurnsOf c.me (old_ring_messages c.state c x ++ x ∷ c.held) c.turns
 took_turned c x h = still c.me (old_ring_messages c.state c x) (x ∷ c.held) c.turns (still c.me (x ∷ []) c.held c.turns h)
 
-pub moved_turned : {A : Type 0} → (received : Frame A → Type 0) (c : Core A) (m : Move A) → MayMove received c m → Turned c → Turned (moved c m)
+pub moved_turned : {A : Type 0} → (received : Frame A → Type 0) (c : Core A) (m : Move A) → MayMove received c m → Turned c → Turned (core_after_move c m)
 moved_turned received c (Visits t fresh requests again queue) h p = visited_turned c t fresh requests h.ahead p
 moved_turned received c (Takes x) h p = took_turned c x p
 moved_turned received c (Idles state gathering last_sent queue sends) h p = p

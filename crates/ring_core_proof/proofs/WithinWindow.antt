@@ -18,7 +18,7 @@ use Rattle.ring_wire.specs.declared.token.Token.{Token}
 use Rattle.ring_core_spec.specs.Windows.{is_numbered, holds, front_of, in_window, is_new}
 use Rattle.ring_core_spec.proofs.Windows.{front_grows, holds-more}
 use Rattle.ring_base.proofs.SameRing.{ring_same}
-use Rattle.ring_core_spec.specs.Tokens.{TokenVisit, Raise, safe_mark, numbered, may_set, is_mine, aru_after}
+use Rattle.ring_core_spec.specs.Tokens.{TokenVisit, MarkRaise, safe_mark, numbered, may_set_aru, is_held_back_by_self, aru_after}
 use Rattle.ring_core_spec.proofs.Tokens.{safe_mark-below, safe_mark-turn, safe_mark-raise}
 use Rattle.ring_core_spec.specs.Commits.{reports_of, safe_of, is_sound, position_of_hop, is_own}
 use Rattle.ring_core_spec.specs.Recoveries.{inner_if_new, inner_messages, inner_message}
@@ -31,7 +31,7 @@ use Rattle.ring_core_spec.specs.Transitions.{old_ring_messages}
 use Rattle.ring_core_spec.specs.Stepping.{after_inputs}
 use Rattle.ring_core_spec.proofs.Commits.{none_behind-at, own_stands}
 pub use Rattle.ring_core_proof.specs.WindowBounds.{IsInWindow, IsHeldInWindow, IsCoreInWindow}
-use Rattle.ring_core_proof.specs.Moves.{Move, Idles, Enters, Learns, Visits, Takes, Installs, held_in, turn_with, moved, MayMove}
+use Rattle.ring_core_proof.specs.Moves.{Move, Idles, Enters, Learns, Visits, Takes, Installs, held_in, turn_with, core_after_move, MayMove}
 use Rattle.ring_base.proofs.Each.{each-weaker, each-append, each-reverse}
 use Rattle.ring_core_proof.proofs.KeptByMoves.{IsKeptByMoves, always}
 
@@ -42,7 +42,7 @@ front-append xs ys r = front_grows ys (xs ++ ys) r (λ n h. holds-more xs ys r n
 
 -- The invariant, on the facts alone
 
-more_held : {A : Type 0} → (xs held : List (Message A)) (turns : List (TokenVisit A)) (raises : List Raise)
+more_held : {A : Type 0} → (xs held : List (Message A)) (turns : List (TokenVisit A)) (raises : List MarkRaise)
     → AllByRecursion (λ (x : Message A). IsInWindow turns raises x) xs → IsHeldInWindow held turns raises
     → IsHeldInWindow (xs ++ held) turns raises
 more_held {A} xs held turns raises h f =
@@ -50,11 +50,11 @@ more_held {A} xs held turns raises h f =
       window = each-append (λ (x : Message A). IsInWindow turns raises x) xs held h f.window;
       visits = each-weaker _ _ (λ (v : TokenVisit A) h. (let i : front_of held v.received.ring ≤ front_of
           (xs ++ held) v.received.ring = front-append xs held v.received.ring in omega arith)) turns f.visits;
-      raised = each-weaker _ _ (λ (x : Raise) h. (let i : front_of held x.ring ≤ front_of
+      raised = each-weaker _ _ (λ (x : MarkRaise) h. (let i : front_of held x.ring ≤ front_of
           (xs ++ held) x.ring = front-append xs held x.ring in omega arith)) raises f.raised;
     }
 
-more_turns : {A : Type 0} → (v : TokenVisit A) (held : List (Message A)) (turns : List (TokenVisit A)) (raises : List Raise)
+more_turns : {A : Type 0} → (v : TokenVisit A) (held : List (Message A)) (turns : List (TokenVisit A)) (raises : List MarkRaise)
     → v.forwarded.aru ≤ front_of held v.received.ring → IsHeldInWindow held turns raises → IsHeldInWindow held (v ∷ turns) raises
 more_turns {A} v held turns raises h f =
     record {
@@ -64,7 +64,7 @@ more_turns {A} v held turns raises h f =
       raised = f.raised;
     }
 
-more_raises : {A : Type 0} → (x : Raise) (held : List (Message A)) (turns : List (TokenVisit A)) (raises : List Raise)
+more_raises : {A : Type 0} → (x : MarkRaise) (held : List (Message A)) (turns : List (TokenVisit A)) (raises : List MarkRaise)
     → x.mark ≤ front_of held x.ring → IsHeldInWindow held turns raises → IsHeldInWindow held turns (x ∷ raises)
 more_raises {A} y held turns raises h f =
     record {
@@ -120,15 +120,15 @@ taken_fits c x h f =
 
 -- Visiting
 
-numbered_below : {A : Type 0} → (turns : List (TokenVisit A)) (raises : List Raise) (r : RingId) (me seq : ℕ)
+numbered_below : {A : Type 0} → (turns : List (TokenVisit A)) (raises : List MarkRaise) (r : RingId) (me seq : ℕ)
     (ps : List (Payload A)) → length ps ≤ safe_mark turns raises r + window_size - seq
     → AllByRecursion (λ (x : Message A). IsInWindow turns raises x) (numbered r me seq ps)
 numbered_below turns raises r me seq [] h = tt
 numbered_below turns raises r me seq (p ∷ ps) h = (omega arith, numbered_below turns raises r me (suc seq) ps (omega arith))
 
 aru_below : (me f : ℕ) (t : Token) → aru_after me f t ≤ f
-aru_below me f t = cond_both (may_set me f t) f t.aru (λ a. a ≤ f) (λ e. omega arith)
-    (λ e. ltb-false f t.aru (or_parts (ltb f t.aru) (is_mine me t.aru_id) e).0)
+aru_below me f t = cond_both (may_set_aru me f t) f t.aru (λ a. a ≤ f) (λ e. omega arith)
+    (λ e. ltb-false f t.aru (or_parts (ltb f t.aru) (is_held_back_by_self me t.aru_id) e).0)
 
 visited_fits : {A : Type 0} → (c : Core A) (t : Token) (fresh : List (Payload A)) (requests : List ℕ)
     → length fresh ≤ mark c t.ring + window_size - t.seq → IsCoreInWindow c → IsHeldInWindow (held_in c t fresh)
@@ -163,7 +163,7 @@ learned_fits c k o s f =
 
 -- Each move
 
-pub moved_fits : {A : Type 0} → (received : Frame A → Type 0) (c : Core A) (m : Move A) → MayMove received c m → IsCoreInWindow c → IsCoreInWindow (moved c m)
+pub moved_fits : {A : Type 0} → (received : Frame A → Type 0) (c : Core A) (m : Move A) → MayMove received c m → IsCoreInWindow c → IsCoreInWindow (core_after_move c m)
 moved_fits received c (Takes x) h f = taken_fits c x h.new f
 moved_fits received c (Visits t fresh requests again queue) h f = visited_fits c t fresh requests h.room f
 moved_fits received c (Learns k) h f = learned_fits c k h.own h.sound f
@@ -187,7 +187,7 @@ pub marks_within : {A : Type 0} → (n me : ℕ) (inputs : List (Input A)) (r : 
 marks_within n me inputs r = mark_below (after_inputs (opening n me) inputs) r (opening_fits n me inputs)
 
 -- each message held, of any ring
-in_window_of : {A : Type 0} → (turns : List (TokenVisit A)) (raises : List Raise) (held : List (Message A)) (r : RingId)
+in_window_of : {A : Type 0} → (turns : List (TokenVisit A)) (raises : List MarkRaise) (held : List (Message A)) (r : RingId)
     (n : ℕ) → AllByRecursion (λ (x : Message A). IsInWindow turns raises x) held → holds held r n ≡ true
     → n ≤ safe_mark turns raises r + window_size
 in_window_of turns raises [] r n f h = absurd (let q : ⊥ = cc in q)

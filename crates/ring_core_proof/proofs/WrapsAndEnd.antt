@@ -13,11 +13,11 @@ use Rattle.ring_base.specs.Rings.{same_ring}
 use Rattle.ring_base.specs.declared.ring_id.RingId.{RingId}
 use Rattle.ring_base.proofs.Each.{each-take, each-filtered, each-filter_map}
 use Rattle.ring_base.proofs.ListFronts.{take-append}
-use Rattle.ring_payload.specs.Kinds.{is_user, payload_of, content_of}
-use Rattle.ring_payload.specs.declared.content.Content.{Content}
-use Rattle.ring_payload.specs.declared.content.Content.TheVariants.{Call as CallContent, Head as HeadContent}
-use Rattle.ring_payload.specs.declared.content.Content.TheVariants.{Part as PartContent, Pack as PackContent}
-use Rattle.ring_payload.specs.declared.content.Content.TheVariants.{Snap as SnapContent}
+use Rattle.ring_payload.specs.PayloadKinds.{is_user, payload_of, content_of}
+use Rattle.ring_payload.specs.declared.content.WrappedPayload.{WrappedPayload}
+use Rattle.ring_payload.specs.declared.content.WrappedPayload.TheVariants.{Call as CallContent, Head as HeadContent}
+use Rattle.ring_payload.specs.declared.content.WrappedPayload.TheVariants.{Part as PartContent, Pack as PackContent}
+use Rattle.ring_payload.specs.declared.content.WrappedPayload.TheVariants.{Snap as SnapContent}
 use Rattle.ring_payload.specs.declared.content.Payload.{Payload}
 use Rattle.ring_payload.specs.declared.content.Payload.TheVariants.{Call, Wrapped, End, Head, Part, Pack, Snap}
 use Rattle.ring_wire.specs.declared.message.Message.{Message}
@@ -60,11 +60,11 @@ seen_of held running old n h =
 -- Contents
 
 -- the message, wrapped
-abbrev wrapping : {A : Type 0} → Message A → Content A → Payload A
+abbrev wrapping : {A : Type 0} → Message A → WrappedPayload A → Payload A
 wrapping x content = Wrapped (record { ring = x.ring; number = x.number; sender = x.sender; payload = content })
 
 -- a message that may be wrapped is a user's, and unwraps to itself
-content_back : {A : Type 0} → (p : Payload A) (content : Content A) → content_of p ≡ Some content → p ≡ payload_of content
+content_back : {A : Type 0} → (p : Payload A) (content : WrappedPayload A) → content_of p ≡ Some content → p ≡ payload_of content
 content_back (Call call) content e = (let k : CallContent call ≡ content = cc in ap payload_of k)
 content_back (Head head) content e = (let k : HeadContent head ≡ content = cc in ap payload_of k)
 content_back (Part part) content e = (let k : PartContent part ≡ content = cc in ap payload_of k)
@@ -73,7 +73,7 @@ content_back (Snap snap) content e = (let k : SnapContent snap ≡ content = cc 
 content_back (Wrapped w) content e = absurd (let n : ⊥ = cc in n)
 content_back End content e = absurd (let n : ⊥ = cc in n)
 
-content_user : {A : Type 0} → (content : Content A) → is_user (payload_of content) ≡ true
+content_user : {A : Type 0} → (content : WrappedPayload A) → is_user (payload_of content) ≡ true
 content_user (CallContent call) = refl
 content_user (HeadContent head) = refl
 content_user (PartContent part) = refl
@@ -81,7 +81,7 @@ content_user (PackContent pack) = refl
 content_user (SnapContent snap) = refl
 
 -- and each user message may be wrapped
-user_content : {A : Type 0} → (p : Payload A) → is_user p ≡ true → (content : Content A) × (content_of p ≡ Some content)
+user_content : {A : Type 0} → (p : Payload A) → is_user p ≡ true → (content : WrappedPayload A) × (content_of p ≡ Some content)
 user_content (Call call) u = (CallContent call, refl)
 user_content (Head head) u = (HeadContent head, refl)
 user_content (Part part) u = (PartContent part, refl)
@@ -129,7 +129,7 @@ module _ {A : Type 0} (c : Core A) where
       (λ x a t. record { ring = a.ring; above = a.above; held = a.held; unseen = not-true _ t }) (above_low (plan c) c.held) all_above
 
   -- each Wrapped is of a user message
-  handed_on : (x : Message A) (o : Option (Content A)) (q : Payload A) → content_of x.payload ≡ o → IsWaiting c x → wrap_content x o ≡ Some q → IsWrapping c q
+  handed_on : (x : Message A) (o : Option (WrappedPayload A)) (q : Payload A) → content_of x.payload ≡ o → IsWaiting c x → wrap_content x o ≡ Some q → IsWrapping c q
   handed_on x None q e w h = absurd (let n : ⊥ = cc in n)
   handed_on x (Some content) q e w h =
       let same : wrapping x content ≡ q = cc in
@@ -200,7 +200,7 @@ filter_rise p below (x ∷ xs) h =
     cond_both (p x) (x ∷ filter p xs) (filter p xs) (MessagesRise below) (λ e. (h.0, filter_rise p x.number xs h.1))
     (λ e. filter_rise p below xs (from_lower below x.number xs (omega (arith, h.0)) h.1))
 
-wrap_one : {A : Type 0} → (below : ℕ) (x : Message A) (o : Option (Content A)) (ps : List (Payload A)) → below < x.number → AreRising x.number ps →
+wrap_one : {A : Type 0} → (below : ℕ) (x : Message A) (o : Option (WrappedPayload A)) (ps : List (Payload A)) → below < x.number → AreRising x.number ps →
     AreRising below ps → AreRising below (cons_option (wrap_content x o) ps)
 wrap_one below x None ps l h k = k
 wrap_one below x (Some content) ps l h k = (record { ring = x.ring; number = x.number; sender = x.sender; payload = content }, refl, l, h)

@@ -5,18 +5,18 @@ use Rattle.std.specs.Prelude.{ℕ, List, [], ◌∷◌, ◌++◌, None}
 use Rattle.std.specs.declared.alloc.Global.{Global}
 use Rattle.ring_base.specs.Processors.{only}
 use Rattle.ring_base.specs.declared.ring_id.RingId.{RingId}
-use Rattle.ring_base.specs.declared.kind.Kind.TheVariants.{Join as JoinTime, Loss}
+use Rattle.ring_base.specs.declared.timeout_kind.Kind.TheVariants.{Join as JoinTime, Loss}
 use Rattle.ring_payload.specs.declared.content.Payload.TheVariants.{Call as CallPayload, End}
 use Rattle.ring_wire.specs.declared.entries.CommitEntry.{CommitEntry}
 use Rattle.ring_wire.specs.declared.frame.Frame.{Frame}
 use Rattle.ring_wire.specs.declared.frame.Frame.TheVariants.{Message as MessageFrame, Token as TokenFrame}
 use Rattle.ring_wire.specs.declared.message.Message.{Message}
-use Rattle.ring_core_spec.specs.State.{alone}
+use Rattle.ring_core_spec.specs.State.{opening_ring}
 use Rattle.ring_core_proof.specs.declared.event.RingEvent.{RingEvent}
 use Rattle.ring_core_proof.specs.declared.event.RingEvent.TheVariants.{Send, Deliver, Timeout}
 use Rattle.ring_core_proof.specs.Worlds.{Transmission, World, run, unformed}
 use Rattle.ring_core_proof.specs.CommitRounds.{Taking}
-use Rattle.ring_core_proof.specs.EpochHistories.{Stage, InRegular, InTransitional}
+use Rattle.ring_core_proof.specs.Lives.{Stage, InRegular, InTransitional}
 use Rattle.ring_core_proof.specs.FirstRings.{frame_of, silent_events}
 use Rattle.ring_core_proof.specs.Samples.{ring_of, first_ring, second_ring, add_five, call_at, wrapped_call, message_of}
 use Rattle.ring_core_proof.specs.Samples.{token_frame, join_frame, commit_frame, report_of, empty_report}
@@ -103,7 +103,7 @@ life_of_two i =
     InTransitional first_ring second_ring 3 (call_at 2 3 ∷ []) ∷
     InRegular (record { ring = first_ring; members = 3 }) (call_at 2 3 ∷ []) 2 ∷
     InTransitional (ring_of 0 i) first_ring (only i) [] ∷
-    InRegular (alone i) [] 0 ∷ []
+    InRegular (opening_ring i) [] 0 ∷ []
 
 -- The messages that the two hold of the first ring.
 abbrev pub first_text : List (Message Global)

@@ -19,7 +19,7 @@ use Rattle.ring_core_spec.specs.Views.{own_entry}
 use Rattle.ring_core_spec.specs.Deciding.{Transition, Ignore, decide}
 use Rattle.ring_core_proof.specs.declared.event.RingEvent.{RingEvent}
 use Rattle.ring_core_proof.specs.declared.event.RingEvent.TheVariants.{Send, Deliver, Timeout, Stop}
-use Rattle.ring_core_proof.specs.Worlds.{Transmission, World, is_node, happens, run}
+use Rattle.ring_core_proof.specs.Worlds.{Transmission, World, is_node, world_after_event, run}
 
 -- The test holds for any two items of the list, in their order.
 abbrev pub all_pairs : {T : Type 0} → (T → T → Bool) → List T → Bool
@@ -44,10 +44,10 @@ report_for ring [] = None
 report_for ring (r ∷ rs) = if same_ring r.ring ring then Some r.entry else report_for ring rs
 
 -- The entries are those that these processors, in order, reported when they took part in the ring.
-abbrev pub are_reports : {A : Type 0} → (ℕ → Core A) → RingId → List ℕ → List CommitEntry → Bool
-are_reports cores ring is [] = true
-are_reports cores ring [] (e ∷ es) = false
-are_reports cores ring (i ∷ is) (e ∷ es) = is_own e (report_for ring (cores i).reports) && are_reports cores ring is es
+abbrev pub are_reports_of_members : {A : Type 0} → (ℕ → Core A) → RingId → List ℕ → List CommitEntry → Bool
+are_reports_of_members cores ring is [] = true
+are_reports_of_members cores ring [] (e ∷ es) = false
+are_reports_of_members cores ring (i ∷ is) (e ∷ es) = is_own e (report_for ring (cores i).reports) && are_reports_of_members cores ring is es
 
 -- The commit token was sent by the member before it, only to the member at its position.
 abbrev pub is_handed_on : {A : Type 0} → Transmission A → CommitToken → Bool
@@ -57,7 +57,7 @@ is_handed_on f k = (f.from == at k.members ((k.hop - 1) % size k.members)) && (f
 abbrev pub is_hop : {A : Type 0} → (ℕ → Core A) → CommitToken → Bool
 is_hop cores k =
     nat_le 1 k.hop && nat_le k.hop (2 * size k.members) && (length k.entries == min k.hop (size k.members))
-    && are_reports cores k.ring (elements k.members) k.entries
+    && are_reports_of_members cores k.ring (elements k.members) k.entries
 
 -- A frame is no commit token, or a hop that the member before it sent, with the reports of its first members.
 abbrev pub is_hop_if_commit : {A : Type 0} → (ℕ → Core A) → Transmission A → Frame A → Bool
@@ -131,7 +131,7 @@ taken_in w (Stop i) = []
 -- The commit tokens taken in a list of events, in order.
 abbrev pub takings : {A : Type 0} → World A → List (RingEvent A) → List Taking
 takings w [] = []
-takings w (e ∷ es) = taken_in w e ++ takings (happens w e) es
+takings w (e ∷ es) = taken_in w e ++ takings (world_after_event w e) es
 
 -- The two are of different rings or of different hops.
 abbrev pub are_other_hops : Taking → Taking → Bool

@@ -11,13 +11,13 @@ use Rattle.ring_wire.specs.declared.commit.CommitToken.{CommitToken}
 use Rattle.ring_wire.specs.declared.entries.CommitEntry.{CommitEntry}
 use Rattle.ring_wire.specs.declared.message.Message.{Message}
 use Rattle.ring_core_spec.specs.Windows.{holds}
-use Rattle.ring_core_spec.specs.Tokens.{TokenVisit, Raise, is_newer, numbered}
+use Rattle.ring_core_spec.specs.Tokens.{TokenVisit, MarkRaise, is_newer, numbered}
 use Rattle.ring_core_spec.specs.Commits.{Configuration}
 use Rattle.ring_core_spec.specs.Recoveries.{is_reported}
 use Rattle.ring_core_spec.specs.State.{Core, Report, floor}
 use Rattle.ring_core_spec.specs.Views.{front, mark, own_entry}
 use Rattle.ring_core_proof.specs.FactWords.{IsIn}
-use Rattle.ring_core_proof.specs.LawWords.{IsFalling}
+use Rattle.ring_core_proof.specs.LawConditions.{IsFalling}
 
 -- Rings
 
@@ -56,14 +56,14 @@ pub record IsOnTheWay (rings installs : List Configuration) (x : Report) : Type 
 pub record IsKnownBelow {A : Type 0} (c : Core A) (number : ℕ) : Type 0 where
   pub held : AllByRecursion (λ (x : Message A). x.ring.seq < number) c.held
   pub turns : AllByRecursion (λ (v : TokenVisit A). v.received.ring.seq < number) c.turns
-  pub raises : AllByRecursion (λ (x : Raise). x.ring.seq < number) c.raises
+  pub raises : AllByRecursion (λ (x : MarkRaise). x.ring.seq < number) c.raises
   pub plans : AllByRecursion (λ (k : CommitToken). k.ring.seq < number) c.plans
 
 -- Each fact is of a ring that the core takes part in; raises and reports are of rings that it installed.
 pub record FactsFit {A : Type 0} (c : Core A) : Type 0 where
   pub held : AllByRecursion (λ (x : Message A). IsRingAmong c.rings x.ring) c.held
   pub turns : AllByRecursion (λ (v : TokenVisit A). IsRingAmong c.rings v.received.ring) c.turns
-  pub raises : AllByRecursion (λ (x : Raise). IsRingAmong c.installs x.ring) c.raises
+  pub raises : AllByRecursion (λ (x : MarkRaise). IsRingAmong c.installs x.ring) c.raises
   pub plans : AllByRecursion (λ (k : CommitToken). IsRingAmong c.rings k.ring) c.plans
   pub reports : AllByRecursion (IsOnTheWay c.rings c.installs) c.reports
   -- A ring has one report and one plan.

@@ -3,7 +3,7 @@
 -- Formats: formed ring of two
 use Rattle.std.specs.Prelude.{ℕ, List, [], ◌∷◌, Some, None}
 use Rattle.std.specs.declared.alloc.Global.{Global}
-use Rattle.ring_base.specs.declared.kind.Kind.TheVariants.{Retransmit, Join as JoinTime, Consensus, Loss}
+use Rattle.ring_base.specs.declared.timeout_kind.Kind.TheVariants.{Retransmit, Join as JoinTime, Consensus, Loss}
 use Rattle.ring_payload.specs.declared.content.Payload.TheVariants.{Call as CallPayload}
 use Rattle.ring_wire.specs.declared.frame.Frame.TheVariants.{Message as MessageFrame}
 use Rattle.ring_core_spec.specs.declared.out.Out.{Out}

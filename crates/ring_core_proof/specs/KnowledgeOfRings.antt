@@ -7,7 +7,7 @@ use Rattle.ring_base.specs.declared.state.State.TheVariants.{Gather, Commit, Sto
 use Rattle.ring_wire.specs.declared.commit.CommitToken.{CommitToken}
 use Rattle.ring_wire.specs.declared.message.Message.{Message}
 use Rattle.ring_core_spec.specs.Windows.{of_ring}
-use Rattle.ring_core_spec.specs.Tokens.{TokenVisit, Raise, turns_of}
+use Rattle.ring_core_spec.specs.Tokens.{TokenVisit, MarkRaise, visits_in_ring}
 use Rattle.ring_core_spec.specs.State.{Core, Report, floor}
 use Rattle.ring_core_spec.specs.Views.{front, mark, own_entry}
 
@@ -16,7 +16,7 @@ use Rattle.ring_core_spec.specs.Views.{front, mark, own_entry}
 pub record RingKnowledge (A : Type 0) : Type 0 where
   pub held : List (Message A)
   pub turns : List (TokenVisit A)
-  pub raises : List Raise
+  pub raises : List MarkRaise
   pub reports : List Report
   pub plans : List CommitToken
 
@@ -25,8 +25,8 @@ abbrev pub knowledge_of : {A : Type 0} → RingId → Core A → RingKnowledge A
 knowledge_of ring c =
     record {
       held = of_ring ring c.held;
-      turns = turns_of ring c.turns;
-      raises = filter (λ (x : Raise). same_ring x.ring ring) c.raises;
+      turns = visits_in_ring ring c.turns;
+      raises = filter (λ (x : MarkRaise). same_ring x.ring ring) c.raises;
       reports = filter (λ (x : Report). same_ring x.ring ring) c.reports;
       plans = filter (λ (k : CommitToken). same_ring k.ring ring) c.plans;
     }

@@ -3,10 +3,10 @@ pub mod Pumping
 pub mod FactWords
 pub mod Moves
 pub mod WindowBounds
-pub mod LawWords
+pub mod LawConditions
 pub mod CommitRounds
 pub mod Texts
-pub mod EpochHistories
+pub mod Lives
 pub mod Samples
 pub mod FormedRing
 pub mod FirstRings

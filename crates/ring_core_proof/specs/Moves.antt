@@ -9,7 +9,7 @@ use Rattle.ring_base.specs.Numbers.{window_size}
 use Rattle.ring_base.specs.Processors.{has, at, size}
 use Rattle.ring_base.specs.declared.state.State.{State}
 use Rattle.ring_base.specs.declared.state.State.TheVariants.{Gather, Commit, Recovery, Operational, Stopped}
-use Rattle.ring_payload.specs.Kinds.{is_user, payload_of}
+use Rattle.ring_payload.specs.PayloadKinds.{is_user, payload_of}
 use Rattle.ring_payload.specs.declared.content.Payload.{Payload}
 use Rattle.ring_payload.specs.declared.content.Payload.TheVariants.{Wrapped, End}
 use Rattle.ring_payload.specs.declared.content.Wrapped.{Wrapped as WrappedMessage}
@@ -21,15 +21,15 @@ use Rattle.ring_wire.specs.declared.message.Message.{Message}
 use Rattle.ring_wire.specs.declared.token.Token.{Token}
 use Rattle.ring_core_spec.specs.Windows.{found, of_ring, highest, front_of}
 use Rattle.ring_core_spec.specs.Tokens.{TokenVisit, first_token, is_newer, numbered, token_after}
-use Rattle.ring_core_spec.specs.Joins.{Gathering, AllSaySame}
+use Rattle.ring_core_spec.specs.Joins.{Gathering, AllHaveOwnSets}
 use Rattle.ring_core_spec.specs.Commits.{is_sound, position_of_hop, receiver, hop_with_entries, is_own}
 use Rattle.ring_core_spec.specs.Recoveries.{is_ready, is_complete, low, is_wrap_of, is_wrapped, has_ended, inner_message}
 use Rattle.ring_core_spec.specs.State.{Core, OutgoingFrame, TransitionResult, floor}
 use Rattle.ring_core_spec.specs.Views.{mark, takes_number, own_entry, plan}
 use Rattle.ring_core_spec.specs.Visiting.{to_others, to_next}
-use Rattle.ring_core_spec.specs.Handing.{ring_joined, commit_learned}
+use Rattle.ring_core_spec.specs.CommitSteps.{ring_joined, commit_learned}
 use Rattle.ring_core_spec.specs.Transitions.{message_taken}
-use Rattle.ring_core_spec.specs.Giving.{may_install, install, delivered}
+use Rattle.ring_core_spec.specs.Giving.{may_install, install, step_result}
 use Rattle.ring_core_spec.specs.Stepping.{ring_step}
 use Rattle.ring_core_spec.specs.declared.input.Input.{Input}
 use Rattle.ring_core_spec.specs.declared.input.Input.TheVariants.{Frame as FrameInput}
@@ -68,19 +68,19 @@ abbrev pub turn_with : {A : Type 0} → Core A → Token → List (Payload A) �
 turn_with c t fresh requests = record { received = t; front = front_of (held_in c t fresh) t.ring; fresh = fresh; forwarded = forwarded_with c t fresh requests }
 
 -- The core after a move.
-abbrev pub moved : {A : Type 0} → Core A → Move A → Core A
-moved c (Idles state gathering last_sent queue sends) = record c { state = state; gathering = gathering; last_sent = last_sent; queue = queue }
-moved c (Enters k) = (ring_joined c (hop_with_entries k (own_entry c ∷ []))).core
-moved c (Learns k) = (commit_learned c k).core
-moved c (Visits t fresh requests again queue) =
+abbrev pub core_after_move : {A : Type 0} → Core A → Move A → Core A
+core_after_move c (Idles state gathering last_sent queue sends) = record c { state = state; gathering = gathering; last_sent = last_sent; queue = queue }
+core_after_move c (Enters k) = (ring_joined c (hop_with_entries k (own_entry c ∷ []))).core
+core_after_move c (Learns k) = (commit_learned c k).core
+core_after_move c (Visits t fresh requests again queue) =
     record c {
       held = held_in c t fresh;
       turns = turn_with c t fresh requests ∷ c.turns;
       queue = queue;
       last_sent = Some (to_next c (forwarded_with c t fresh requests));
     }
-moved c (Takes x) = message_taken c x
-moved c Installs = install c
+core_after_move c (Takes x) = message_taken c x
+core_after_move c Installs = install c
 
 -- The frames that a move sends.
 abbrev pub sends_of : {A : Type 0} → Core A → Move A → List (OutgoingFrame A)
@@ -92,8 +92,8 @@ sends_of c (Takes x) = []
 sends_of c Installs = []
 
 -- The core after a move, with the frames that the move sends.
-abbrev pub did : {A : Type 0} → Core A → Move A → TransitionResult A
-did c m = record { core = moved c m; sends = sends_of c m }
+abbrev pub move_result : {A : Type 0} → Core A → Move A → TransitionResult A
+move_result c m = record { core = core_after_move c m; sends = sends_of c m }
 
 -- The conditions of each move. `received` are the frames that arrived at the core
 
@@ -110,7 +110,7 @@ IsRepeated last_sent s = (last_sent ≡ Some s) ⊎ ((j : Join) × (s.frame ≡ 
 pub record MayIdle {A : Type 0} (c : Core A) (state : State) (gathering : Gathering) (last_sent : Option (OutgoingFrame A))
     (queue : List (Payload A)) (sends : List (OutgoingFrame A)) : Type 0 where
   pub leaves : (state ≡ c.state) ⊎ ((state ≡ Gather) ⊎ (state ≡ Stopped))
-  pub joins : AllSaySame c.gathering → AllSaySame gathering
+  pub joins : AllHaveOwnSets c.gathering → AllHaveOwnSets gathering
   pub shows : (last_sent ≡ None) ⊎ (last_sent ≡ c.last_sent)
   pub queued : AllAreUsers c.queue → AllAreUsers queue
   pub sent : AllByRecursion (IsRepeated c.last_sent) sends
@@ -247,17 +247,17 @@ MayMove received c Installs = MayInstall c
 -- The core after a list of moves.
 abbrev pub after_moves : {A : Type 0} → Core A → List (Move A) → Core A
 after_moves c [] = c
-after_moves c (m ∷ ms) = after_moves (moved c m) ms
+after_moves c (m ∷ ms) = after_moves (core_after_move c m) ms
 
 -- All frames that they send.
 abbrev pub all_sends : {A : Type 0} → Core A → List (Move A) → List (OutgoingFrame A)
 all_sends c [] = []
-all_sends c (m ∷ ms) = sends_of c m ++ all_sends (moved c m) ms
+all_sends c (m ∷ ms) = sends_of c m ++ all_sends (core_after_move c m) ms
 
 -- The conditions of each hold when it is made.
 abbrev pub MayAll : {A : Type 0} → (Frame A → Type 0) → Core A → List (Move A) → Type 0
 MayAll received c [] = Unit {0}
-MayAll received c (m ∷ ms) = MayMove received c m × MayAll received (moved c m) ms
+MayAll received c (m ∷ ms) = MayMove received c m × MayAll received (core_after_move c m) ms
 
 -- The frame was sent to this processor.
 abbrev pub IsReceivedFrame : {A : Type 0} → List (Transmission A) → ℕ → Frame A → Type 0
@@ -268,5 +268,5 @@ pub record IsMoved {A : Type 0} (c : Core A) (input : Input A) : Type 0 where
   pub moves : List (Move A)
   pub few : length moves ≤ 2
   pub may : MayAll (λ frame. input ≡ FrameInput frame) c moves
-  pub step : ring_step c input ≡ delivered c (record { core = after_moves c moves; sends = all_sends c moves })
+  pub step : ring_step c input ≡ step_result c (record { core = after_moves c moves; sends = all_sends c moves })
   pub installs : may_install (after_moves c moves) ≡ true → MayInstall (after_moves c moves)

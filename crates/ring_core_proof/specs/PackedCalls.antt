@@ -4,9 +4,9 @@
 use Rattle.std.specs.Prelude.{ℕ, List, [], ◌∷◌, ◌++◌, map, None}
 use Rattle.std.specs.declared.alloc.Global.{Global}
 use Rattle.ring_base.specs.Numbers.{numbers_from}
-use Rattle.ring_base.specs.declared.kind.Kind.TheVariants.{Join as JoinTime}
+use Rattle.ring_base.specs.declared.timeout_kind.Kind.TheVariants.{Join as JoinTime}
 use Rattle.ring_payload.specs.declared.call.Call.{Call}
-use Rattle.ring_payload.specs.declared.content.Content.TheVariants.{Pack as PackContent}
+use Rattle.ring_payload.specs.declared.content.WrappedPayload.TheVariants.{Pack as PackContent}
 use Rattle.ring_payload.specs.declared.content.Payload.{Payload}
 use Rattle.ring_payload.specs.declared.content.Payload.TheVariants.{Call as CallPayload, Pack as PackPayload, Snap as SnapPayload, Wrapped}
 use Rattle.ring_wire.specs.declared.message.Message.{Message}

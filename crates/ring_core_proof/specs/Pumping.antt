@@ -4,7 +4,7 @@
 use Rattle.std.specs.Prelude.{ℕ, zero, suc, List, [], ◌∷◌, ◌++◌, drop, length}
 use Rattle.ring_core_spec.specs.State.{receiver_pairs}
 use Rattle.ring_core_proof.specs.declared.event.RingEvent.TheVariants.{Deliver}
-use Rattle.ring_core_proof.specs.Worlds.{World, happens}
+use Rattle.ring_core_proof.specs.Worlds.{World, world_after_event}
 
 -- A world with its undelivered pairs of frame and receiver, oldest first.
 pub record Pumped (A : Type 0) : Type 0 where
@@ -22,7 +22,7 @@ pumped_on old new pairs = record { world = new; pairs = pairs ++ pairs_after (le
 -- The oldest pair is delivered.
 abbrev pub turn : {A : Type 0} → World A → List (ℕ × ℕ) → Pumped A
 turn w [] = record { world = w; pairs = [] }
-turn w (p ∷ pairs) = pumped_on w (happens w (Deliver p.1 p.0)) pairs
+turn w (p ∷ pairs) = pumped_on w (world_after_event w (Deliver p.1 p.0)) pairs
 
 -- This many pairs are delivered, one after another.
 abbrev pub turns : {A : Type 0} → ℕ → Pumped A → Pumped A

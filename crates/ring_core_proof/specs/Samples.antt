@@ -5,7 +5,7 @@ use Rattle.std.specs.declared.alloc.Global.{Global}
 use Rattle.ring_base.specs.Numbers.{has_bit}
 use Rattle.ring_base.specs.declared.ring_id.RingId.{RingId}
 use Rattle.ring_payload.specs.declared.call.Call.{Call}
-use Rattle.ring_payload.specs.declared.content.Content.TheVariants.{Call as CallContent}
+use Rattle.ring_payload.specs.declared.content.WrappedPayload.TheVariants.{Call as CallContent}
 use Rattle.ring_payload.specs.declared.content.Payload.{Payload}
 use Rattle.ring_payload.specs.declared.content.Payload.TheVariants.{Call as CallPayload, Head, Wrapped}
 use Rattle.ring_wire.specs.declared.entries.CommitEntry.{CommitEntry}
@@ -15,7 +15,7 @@ use Rattle.ring_wire.specs.declared.frame.Frame.TheVariants.{Token as TokenFrame
 use Rattle.ring_wire.specs.declared.join.Join.{Join}
 use Rattle.ring_wire.specs.declared.message.Message.{Message}
 use Rattle.ring_wire.specs.declared.token.Token.{Token}
-use Rattle.ring_core_spec.specs.Windows.{bytes_of}
+use Rattle.ring_core_spec.specs.Windows.{bytes_from_bits}
 use Rattle.ring_core_spec.specs.State.{Core, formed}
 
 -- The ring of a number and a representative.
@@ -72,7 +72,7 @@ join_frame sender number proc_set fail_set = JoinFrame (join_of sender number pr
 
 -- An entry with its bits as one number, whose least bit is that of the number after the front.
 abbrev pub report_of : RingId → ℕ → ℕ → ℕ → CommitEntry
-report_of old front mark bits = record { old = old; front = front; mark = mark; held = bytes_of (has_bit bits) 0 32 }
+report_of old front mark bits = record { old = old; front = front; mark = mark; held = bytes_from_bits (has_bit bits) 0 32 }
 
 -- The report of a processor that was in no ring.
 abbrev pub empty_report : ℕ → CommitEntry

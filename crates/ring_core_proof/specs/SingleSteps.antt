@@ -21,8 +21,8 @@ use Rattle.ring_core_proof.specs.Samples.{first_ring, second_ring, commit_of, co
 use Rattle.ring_core_proof.specs.Samples.{empty_head, call_at, token_of, token_frame, join_frame, holding}
 
 -- A frame arrives at a core.
-abbrev pub comes : Core Global → Frame Global → StepResult Global
-comes c frame = ring_step c (FrameInput frame)
+abbrev pub step_with_frame : Core Global → Frame Global → StepResult Global
+step_with_frame c frame = ring_step c (FrameInput frame)
 
 -- The token at two of three processors: processor 2 holds 1 to 8, processor 3 holds 1 to 10
 

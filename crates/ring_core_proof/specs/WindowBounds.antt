@@ -8,7 +8,7 @@ use Rattle.ring_base.specs.declared.state.State.{State}
 use Rattle.ring_base.specs.declared.state.State.TheVariants.{Gather, Commit, Recovery, Operational, Stopped}
 use Rattle.ring_wire.specs.declared.message.Message.{Message}
 use Rattle.ring_core_spec.specs.Windows.{front_of}
-use Rattle.ring_core_spec.specs.Tokens.{TokenVisit, Raise, safe_mark}
+use Rattle.ring_core_spec.specs.Tokens.{TokenVisit, MarkRaise, safe_mark}
 use Rattle.ring_core_spec.specs.Commits.{Configuration}
 use Rattle.ring_core_spec.specs.State.{Core, floor}
 
@@ -28,14 +28,14 @@ pub record HasOrderedRings {A : Type 0} (c : Core A) : Type 0 where
   pub turns : AllByRecursion (λ (v : TokenVisit A). v.received.ring.seq ≤ floor c) c.turns
 
 -- The message is within the window.
-abbrev pub IsInWindow : {A : Type 0} → List (TokenVisit A) → List Raise → Message A → Type 0
+abbrev pub IsInWindow : {A : Type 0} → List (TokenVisit A) → List MarkRaise → Message A → Type 0
 IsInWindow turns raises x = x.number ≤ safe_mark turns raises x.ring + window_size
 
 -- Each held message is within the window, and what a mark is computed from is at most the front.
-pub record IsHeldInWindow {A : Type 0} (held : List (Message A)) (turns : List (TokenVisit A)) (raises : List Raise) : Type 0 where
+pub record IsHeldInWindow {A : Type 0} (held : List (Message A)) (turns : List (TokenVisit A)) (raises : List MarkRaise) : Type 0 where
   pub window : AllByRecursion (λ (x : Message A). IsInWindow turns raises x) held
   pub visits : AllByRecursion (λ (v : TokenVisit A). v.forwarded.aru ≤ front_of held v.received.ring) turns
-  pub raised : AllByRecursion (λ (x : Raise). x.mark ≤ front_of held x.ring) raises
+  pub raised : AllByRecursion (λ (x : MarkRaise). x.mark ≤ front_of held x.ring) raises
 
 -- No safe mark of the core passes its front, and no held message lies more than 256 past its ring's mark.
 abbrev pub IsCoreInWindow : {A : Type 0} → Core A → Type 0

@@ -8,7 +8,7 @@ ghost use Rattle.ring_core_proof.specs.declared.event.RingEvent.TheVariants.{Del
 ghost use Rattle.ring_core_proof.specs.Worlds.{unformed};
 ghost use Rattle.ring_core_proof.specs.CommitRounds.{CommitRounds, takings};
 ghost use Rattle.ring_core_proof.specs.Texts.{text_of};
-ghost use Rattle.ring_core_proof.specs.EpochHistories.{life_of, stages_of, has_ordered_outputs, delivered_in};
+ghost use Rattle.ring_core_proof.specs.Lives.{life_of, stages_of, has_ordered_outputs, delivered_in};
 ghost use Rattle.ring_core_proof.specs.Samples.{first_ring, call_at};
 ghost use Rattle.ring_core_proof.specs.ChangedRing.{change_events, changed, changed_frames, life_of_two, first_text, summary, hops_of_two, unproposed};
 ghost use Rattle.ring_core_proof.specs.ChangedRing.{misnamed};

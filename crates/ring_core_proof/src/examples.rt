@@ -7,16 +7,16 @@ ghost use Rattle.std.specs.declared.alloc.Global.{Global};
 ghost use Rattle.ring_base.specs.Numbers.{max_number, numbers_from};
 ghost use Rattle.ring_payload.specs.declared.content.Payload.TheVariants.{Call as CallPayload, End};
 ghost use Rattle.ring_wire.specs.declared.frame.Frame.TheVariants.{Message as MessageFrame, Join as JoinFrame, Commit as CommitFrame};
-ghost use Rattle.ring_core_spec.specs.Tokens.{first_token, mark_by};
+ghost use Rattle.ring_core_spec.specs.Tokens.{first_token, mark_from_arus};
 ghost use Rattle.ring_core_spec.specs.Joins.{gathering_opening, join_merged, silent_given_up, new_number};
-ghost use Rattle.ring_core_spec.specs.Recoveries.{safe, low, gap, least_mark, is_complete, rests, delivery, finish};
+ghost use Rattle.ring_core_spec.specs.Recoveries.{safe, low, gap, least_mark, is_complete, rest_messages, delivery, finish};
 ghost use Rattle.ring_core_spec.specs.declared.input.Input.TheVariants.{Frame as FrameInput, Timeout, Send};
-ghost use Rattle.ring_base.specs.declared.kind.Kind.TheVariants.{Retransmit, Join as JoinTime, Consensus, Loss};
+ghost use Rattle.ring_base.specs.declared.timeout_kind.Kind.TheVariants.{Retransmit, Join as JoinTime, Consensus, Loss};
 ghost use Rattle.ring_core_spec.specs.declared.out.Out.TheVariants.{Agreed};
 ghost use Rattle.ring_base.specs.declared.state.State.TheVariants.{Recovery, Operational};
 ghost use Rattle.ring_core_spec.specs.State.{opening, halted};
 ghost use Rattle.ring_core_spec.specs.Views.{front, mark, takes_number, own_entry, plan};
-ghost use Rattle.ring_core_spec.specs.Visiting.{accepts, repeated, offers, new_payloads, token_forwarded, token_visited};
+ghost use Rattle.ring_core_spec.specs.Visiting.{accepts, messages_sent_again, payloads_to_send, new_payloads, token_forwarded, token_visited};
 ghost use Rattle.ring_core_spec.specs.Joining.{proposes};
 ghost use Rattle.ring_core_spec.specs.Giving.{may_install};
 ghost use Rattle.ring_core_spec.specs.Deciding.{decide, Ignore, Take, EnterGather, Agree, MergeJoin, EnterGatherAndAgree, EnterGatherAndMergeJoin, Visit, Fill, Learn};
@@ -30,7 +30,7 @@ ghost use Rattle.ring_core_proof.specs.FirstRings.{three_after, three_frames, st
 ghost use Rattle.ring_core_proof.specs.FirstRings.{first_configurations, silent_events, silent_frames, lone_events};
 ghost use Rattle.ring_core_proof.specs.FirstRings.{lone_outs, lone_hop, three_reports, join_to_others, stop_events};
 ghost use Rattle.ring_core_proof.specs.FirstRings.{idle_events};
-ghost use Rattle.ring_core_proof.specs.SingleSteps.{comes, lacking, having, token_of_ten, asking_token, asks, sends_again};
+ghost use Rattle.ring_core_proof.specs.SingleSteps.{step_with_frame, lacking, having, token_of_ten, asking_token, asks, sends_again};
 ghost use Rattle.ring_core_proof.specs.SingleSteps.{holed, marked, sending, near_greatest, floored, stranger};
 ghost use Rattle.ring_core_proof.specs.SingleSteps.{marked_at_five, asks_three_and_seven, gathering_from, formed_three};
 ghost use Rattle.ring_core_proof.specs.SingleSteps.{opened_three, in_ring_of_two, invitation, gathering_alone, gave_up_two};
@@ -85,7 +85,7 @@ pub fn three_install()
 /// States an example of a group of one: all its outputs, from the first timeout to a call that is safe.
 ///
 /// Rules: The commit token 9; Outputs 1
-pub fn ring_of_one()
+pub fn outputs_of_ring_of_one()
     ensures { (run (unformed 1) lone_events).outs ≡ lone_outs }
 {}
 
@@ -97,20 +97,20 @@ pub fn ring_of_one()
 /// Rules: Token and window 6 to 8
 /// Formats: two tokens; repeated token
 pub fn token_asks_for_messages()
-    ensures asks { (comes lacking token_of_ten).outs ≡ asks }
-    ensures again_outs { (comes (comes lacking token_of_ten).core token_of_ten).outs ≡ [] }
-    ensures again_core { (comes (comes lacking token_of_ten).core token_of_ten).core ≡ (comes lacking token_of_ten).core }
-    ensures sends_again { (comes having asking_token).outs ≡ sends_again }
+    ensures asks { (step_with_frame lacking token_of_ten).outs ≡ asks }
+    ensures again_outs { (step_with_frame (step_with_frame lacking token_of_ten).core token_of_ten).outs ≡ [] }
+    ensures again_core { (step_with_frame (step_with_frame lacking token_of_ten).core token_of_ten).core ≡ (step_with_frame lacking token_of_ten).core }
+    ensures sends_again { (step_with_frame having asking_token).outs ≡ sends_again }
 {}
 
 /// States the safe mark after each of four visits that forward the `aru` 10, 8, 10 and 10: 0, 8, 8 and 10.
 ///
 /// Rules: Token and window 10
 pub fn safe_marks()
-    ensures first { mark_by (10 ∷ []) ≡ 0 }
-    ensures second { mark_by (8 ∷ 10 ∷ []) ≡ 8 }
-    ensures third { mark_by (10 ∷ 8 ∷ 10 ∷ []) ≡ 8 }
-    ensures fourth { mark_by (10 ∷ 10 ∷ 8 ∷ 10 ∷ []) ≡ 10 }
+    ensures first { mark_from_arus (10 ∷ []) ≡ 0 }
+    ensures second { mark_from_arus (8 ∷ 10 ∷ []) ≡ 8 }
+    ensures third { mark_from_arus (10 ∷ 8 ∷ 10 ∷ []) ≡ 8 }
+    ensures fourth { mark_from_arus (10 ∷ 10 ∷ 8 ∷ 10 ∷ []) ≡ 10 }
 {}
 
 /// States an example of two processors from one old ring: each wraps what the other lacks, and both deliver the same
@@ -121,14 +121,14 @@ pub fn safe_marks()
 pub fn plan_of_two()
     ensures low { low (plan with_four) ≡ 2 }
     ensures gap { gap (plan with_four) ≡ 5 }
-    ensures first_wraps { offers Recovery with_four 8 ≡ wrapped_call 1 4 ∷ End ∷ [] }
-    ensures second_wraps { offers Recovery with_three 8 ≡ wrapped_call 1 3 ∷ End ∷ [] }
+    ensures first_wraps { payloads_to_send Recovery with_four 8 ≡ wrapped_call 1 4 ∷ End ∷ [] }
+    ensures second_wraps { payloads_to_send Recovery with_three 8 ≡ wrapped_call 1 3 ∷ End ∷ [] }
     ensures not_yet { finish (plan with_four) with_four.held ≡ None }
     ensures then { finish (plan (with_all 1)) (with_all 1).held ≡ Some (record { regular = []; transitional = 1 ∷ 2 ∷ 3 ∷ 4 ∷ []; past_gap = [] }) }
     ensures installs { may_install (with_ends (with_all 1)) ≡ true }
     ensures waits { may_install (with_ends with_four) ≡ false }
-    ensures first_gives { rests (plan (with_all 1)) (with_all 1).held ≡ map (call_at 1) (1 ∷ 2 ∷ 3 ∷ 4 ∷ []) }
-    ensures second_gives { rests (plan (with_all 2)) (with_all 2).held ≡ map (call_at 1) (1 ∷ 2 ∷ 3 ∷ 4 ∷ []) }
+    ensures first_gives { rest_messages (plan (with_all 1)) (with_all 1).held ≡ map (call_at 1) (1 ∷ 2 ∷ 3 ∷ 4 ∷ []) }
+    ensures second_gives { rest_messages (plan (with_all 2)) (with_all 2).held ≡ map (call_at 1) (1 ∷ 2 ∷ 3 ∷ 4 ∷ []) }
 {}
 
 /// States an example of a plan: two processors come from one old ring, and the third member comes from another.
@@ -155,7 +155,7 @@ pub fn plan_with_gap()
     ensures transitional_members { (plan past_gap).transitional_members ≡ 3 }
     ensures gap { gap (plan past_gap) ≡ 3 }
     ensures parts { delivery (plan past_gap) past_gap.held ≡ record { regular = []; transitional = 1 ∷ 2 ∷ []; past_gap = 4 ∷ [] } }
-    ensures gives { rests (plan past_gap) past_gap.held ≡ map (call_at 1) (1 ∷ 2 ∷ 4 ∷ []) }
+    ensures gives { rest_messages (plan past_gap) past_gap.held ≡ map (call_at 1) (1 ∷ 2 ∷ 4 ∷ []) }
 {}
 
 /// States an example of a window with holes: its front, its entry and its new numbers, before and after its safe mark
@@ -182,12 +182,12 @@ pub fn window_with_holes()
 /// - A frame that names a processor outside the group is ignored.
 ///
 /// Rules: Limits 1 and 2; Token and window 6, 7 and 9; Gather 10; Processors and sets 5
-pub fn limits()
+pub fn examples_at_limits()
     ensures window { length (new_payloads (sending 250) (token_at 5 250)) ≡ 6 }
     ensures left_over { length (token_visited (sending 250) (token_at 5 250)).core.queue ≡ 4 }
     ensures batch { length (new_payloads (sending 10) (token_at 5 10)) ≡ 8 }
     ensures requests { (token_forwarded (holding 3 2 []) (token_at 5 50)).requests ≡ numbers_from 1 32 }
-    ensures old_request { repeated marked_at_five asks_three_and_seven ≡ call_at 1 7 ∷ [] }
+    ensures old_request { messages_sent_again marked_at_five asks_three_and_seven ≡ call_at 1 7 ∷ [] }
     ensures message { length (new_payloads near_greatest (token_at 5 (max_number - 2))) ≡ 2 }
     ensures token_below { accepts (sending 0) (token_at (max_number - 1) 0) ≡ true }
     ensures token_greatest { accepts (sending 0) (token_at max_number 0) ≡ false }
@@ -216,8 +216,8 @@ pub fn packed_calls()
     ensures batch { length (new_payloads (queueing five_times) (token_at 5 0)) ≡ 8 }
     ensures left_over { (token_visited (queueing five_times) (token_at 5 0)).core.queue ≡ two_and_head 9 }
     ensures window { new_payloads (queueing five_times) (token_at 5 255) ≡ pack_of (calls_from 1 2) ∷ [] }
-    ensures wraps { offers Recovery with_pack 8 ≡ wrapped_pack ∷ End ∷ [] }
-    ensures unwraps { (comes with_three (MessageFrame handed_on)).core.held ≡ packed_message ∷ handed_on ∷ with_three.held }
+    ensures wraps { payloads_to_send Recovery with_pack 8 ≡ wrapped_pack ∷ End ∷ [] }
+    ensures unwraps { (step_with_frame with_three (MessageFrame handed_on)).core.held ≡ packed_message ∷ handed_on ∷ with_three.held }
 {}
 
 /// States examples of rare cases in each state.
@@ -231,7 +231,7 @@ pub fn packed_calls()
 /// - A stopped node has no outputs.
 ///
 /// Rules: Rings and states 8 and 12; Gather 1, 5, 10, 12 and 13; Timeouts 3 and 4; Token and window 11
-pub fn corners()
+pub fn rare_cases()
     ensures left_ring { decide (gathering_from 1) (FrameInput (MessageFrame (call_at 2 1))) ≡ Take (call_at 2 1) }
     ensures newer_floor { decide (gathering_from 2) (FrameInput (MessageFrame (call_at 2 1))) ≡ Ignore }
     ensures queue { (ring_step (sending 3) (Timeout Loss)).core.queue ≡ [] }
@@ -254,7 +254,7 @@ pub fn corners()
 /// They also show how giving up leads to a proposal, and the number of the proposed ring.
 ///
 /// Rules: Gather 3 to 6, 10, 12 and 13
-pub fn joins()
+pub fn join_examples()
     ensures own { decide (opening 3 1) (FrameInput (join_frame 1 0 7 0)) ≡ Ignore }
     ensures silent_given_up { decide gave_up_two (FrameInput (join_frame 2 0 7 0)) ≡ Ignore }
     ensures same { decide (opening 3 1) (FrameInput (join_frame 2 0 7 0)) ≡ Agree (join_of 2 0 7 0) }
@@ -276,19 +276,19 @@ pub fn joins()
 /// A retransmission sends the kept token until Gather is entered.
 ///
 /// Rules: Timeouts 2 and 3
-pub fn timeouts()
+pub fn timeout_examples()
     ensures lost { decide formed_three (Timeout Loss) ≡ EnterGather }
     ensures waits { decide formed_three (Timeout Consensus) ≡ Ignore }
     ensures silent_in_commit { decide ((three_after 6).cores 1) (Timeout JoinTime) ≡ Ignore }
     ensures nothing_shown { (ring_step opened_three (Timeout Retransmit)).outs ≡ [] }
-    ensures shows_again { (ring_step (comes lacking token_of_ten).core (Timeout Retransmit)).outs ≡ asks }
-    ensures shows_no_more { (ring_step (ring_step (comes lacking token_of_ten).core (Timeout Loss)).core (Timeout Retransmit)).outs ≡ [] }
+    ensures shows_again { (ring_step (step_with_frame lacking token_of_ten).core (Timeout Retransmit)).outs ≡ asks }
+    ensures shows_no_more { (ring_step (ring_step (step_with_frame lacking token_of_ten).core (Timeout Loss)).core (Timeout Retransmit)).outs ≡ [] }
 {}
 
 /// States examples of tokens that are accepted and of tokens that are ignored, and of each case of the `aru` rule.
 ///
 /// Rules: Token and window 6 and 8
-pub fn tokens()
+pub fn token_examples()
     ensures other_ring { decide (gathering_from 1) (FrameInput token_of_ten) ≡ Ignore }
     ensures in_commit { decide ((three_after 6).cores 1) (FrameInput (token_frame 1 0 0 None [])) ≡ Ignore }
     ensures of_old_ring { decide with_four (FrameInput token_of_ten) ≡ Ignore }
@@ -306,7 +306,7 @@ pub fn tokens()
 ///   covers.
 ///
 /// Rules: Token and window 11; Recovery 6; Outputs 3
-pub fn messages()
+pub fn message_examples()
     ensures taken { decide (holding 3 2 []) (FrameInput (MessageFrame (call_at 1 1))) ≡ Take (call_at 1 1) }
     ensures held { decide (holding 3 2 (1 ∷ [])) (FrameInput (MessageFrame (call_at 1 1))) ≡ Ignore }
     ensures outsider { decide (in_ring_of_two Operational) (FrameInput (MessageFrame (call_at 3 1))) ≡ Ignore }
@@ -325,7 +325,7 @@ pub fn messages()
 /// States examples of commit tokens, round by round: which hop is taken where, and which tests reject it.
 ///
 /// Rules: The commit token 1 and 5 to 8
-pub fn commit_tokens()
+pub fn commit_token_examples()
     ensures first { decide (opening 3 2) (FrameInput (hop_at_three 1 (empty_report 1 ∷ []))) ≡ Fill (commit_of first_ring 7 1 (empty_report 1 ∷ [])) }
     ensures elsewhere { decide (opening 3 3) (FrameInput (hop_at_three 1 (empty_report 1 ∷ []))) ≡ Ignore }
     ensures other_members { decide (opening 3 2) (FrameInput (commit_frame first_ring 3 1 (empty_report 1 ∷ []))) ≡ Ignore }
@@ -349,7 +349,7 @@ pub fn commit_tokens()
 /// States examples of payloads to send: which of them are queued, and in which state.
 ///
 /// Rules: Rings and states 9
-pub fn payloads()
+pub fn queued_payload_examples()
     ensures queued { (ring_step formed_three (Send (CallPayload add_five))).core.queue ≡ CallPayload add_five ∷ [] }
     ensures end { decide formed_three (Send End) ≡ Ignore }
     ensures wrapped { decide formed_three (Send (wrapped_call 1 1)) ≡ Ignore }
@@ -362,7 +362,7 @@ pub fn payloads()
 /// States examples of events without effect: on a stopped processor, an unknown processor or an unknown frame.
 ///
 /// Rules: Rings and states 12 and 14
-pub fn stops()
+pub fn events_without_effect()
     ensures silent { (run (unformed 3) stop_events).outs ≡ [] }
     ensures idle { (run (unformed 3) idle_events).frames ≡ join_to_others 1 ∷ [] }
 {}

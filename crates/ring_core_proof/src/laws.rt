@@ -9,12 +9,12 @@ ghost use Rattle.std.specs.List.{list_all, flat_map, AllByRecursion};
 ghost use Rattle.ring_base.specs.Numbers.{numbers_from, window_size};
 ghost use Rattle.ring_base.specs.declared.ring_id.RingId.{RingId};
 ghost use Rattle.ring_payload.specs.declared.content.Payload.{Payload};
-ghost use Rattle.ring_payload.specs.Kinds.{is_user, unpacked_payloads};
-ghost use Rattle.ring_payload.specs.Packing.{AreQueued, IsLongestRun, first_run, packed_payloads, unpacked_rest};
+ghost use Rattle.ring_payload.specs.PayloadKinds.{is_user, unpacked_payloads};
+ghost use Rattle.ring_payload.specs.Packing.{AreQueued, IsLongestRun, longest_call_run, packed_payloads, unpacked_rest};
 ghost use Rattle.ring_payload.specs.Payloads.{PayloadFits};
 ghost use Rattle.ring_wire.specs.declared.commit.CommitToken.{CommitToken};
 ghost use Rattle.ring_core_spec.specs.Windows.{holds};
-ghost use Rattle.ring_core_spec.specs.Joins.{AllSaySame};
+ghost use Rattle.ring_core_spec.specs.Joins.{AllHaveOwnSets};
 ghost use Rattle.ring_core_spec.specs.Commits.{receiver};
 ghost use Rattle.ring_core_spec.specs.declared.input.Input.{Input};
 ghost use Rattle.ring_core_spec.specs.State.{Core, opening};
@@ -25,9 +25,9 @@ ghost use Rattle.ring_core_proof.specs.declared.event.RingEvent.{RingEvent};
 ghost use Rattle.ring_core_proof.specs.Worlds.{World, run, unformed};
 ghost use Rattle.ring_core_proof.specs.CommitRounds.{has_rising_rings, is_taken, takings};
 ghost use Rattle.ring_core_proof.specs.Moves.{IsMoved};
-ghost use Rattle.ring_core_proof.specs.LawWords.{IsInputOf, HasPassed, IsFalling, TakesCommit, AreTurnsOf, AreFreshOf, HasEnded};
+ghost use Rattle.ring_core_proof.specs.LawConditions.{IsInputOf, HasPassed, IsFalling, TakesCommit, AreTurnsOf, AreFreshOf, HasEnded};
 
-use ring_core_spec::{bits_law, finish_law, front_law, safe_law};
+use ring_core_spec::{finish_law, held_bits_law, two_visits_safe_law, unique_front_law};
 use std::alloc::{Allocator, Global};
 
 /// States that the transition chosen for an input has passed the tests that the rules name for it.
@@ -44,7 +44,7 @@ pub fn decision_law<A: Allocator + Copy>()
 /// The law holds for every core and every input.
 ///
 /// Rules: Rings and states 8
-pub fn cause_law<A: Allocator + Copy>()
+pub fn transition_carries_input_law<A: Allocator + Copy>()
     ensures { (c : Core A) (input : Input A) → IsInputOf c input (decide c input) }
 {}
 
@@ -53,7 +53,7 @@ pub fn cause_law<A: Allocator + Copy>()
 /// The law holds for every core and every commit token, forged ones included.
 ///
 /// Rules: The commit token 1
-pub fn hop_law<A: Allocator + Copy>()
+pub fn hop_taken_by_receiver_law<A: Allocator + Copy>()
     ensures { (c : Core A) (k : CommitToken) → TakesCommit c k → receiver k ≡ c.me }
 {}
 
@@ -70,14 +70,14 @@ pub fn moves_law<A: Allocator + Copy>()
 /// States that the numbers of the rings that a core takes part in strictly rise, after any inputs from the opening.
 ///
 /// Rules: Rings and states 7; The commit token 10
-pub fn rings_law<A: Allocator + Copy>()
+pub fn ring_numbers_rise_law<A: Allocator + Copy>()
     ensures { (n me : ℕ) (inputs : List (Input A)) → IsFalling (after_inputs (opening n me) inputs).rings }
 {}
 
 /// States that a core's safe mark in any ring is at most its front there, after any inputs from the opening.
 ///
 /// Rules: Token and window 3
-pub fn mark_law<A: Allocator + Copy>()
+pub fn mark_within_front_law<A: Allocator + Copy>()
     ensures { (n me : ℕ) (inputs : List (Input A)) (ring : RingId) → mark (after_inputs (opening n me) inputs)
         ring ≤ front (after_inputs (opening n me) inputs) ring }
 {}
@@ -87,7 +87,7 @@ pub fn mark_law<A: Allocator + Copy>()
 /// The law holds after any inputs from the opening.
 ///
 /// Rules: Token and window 4
-pub fn window_law<A: Allocator + Copy>()
+pub fn held_within_window_law<A: Allocator + Copy>()
     ensures { (n me : ℕ) (inputs : List (Input A)) (ring : RingId) (k : ℕ)
         → holds (after_inputs (opening n me) inputs).held ring k ≡ true
         → k ≤ mark (after_inputs (opening n me) inputs) ring + window_size }
@@ -100,7 +100,7 @@ pub fn window_law<A: Allocator + Copy>()
 ///
 /// Rules: Gather 3 and 9
 pub fn agreement_law<A: Allocator + Copy>()
-    ensures { (n me : ℕ) (inputs : List (Input A)) → AllSaySame (after_inputs (opening n me) inputs).gathering }
+    ensures { (n me : ℕ) (inputs : List (Input A)) → AllHaveOwnSets (after_inputs (opening n me) inputs).gathering }
 {}
 
 /// States that each visit of a core follows the rules, after any inputs from the opening, whatever the token requests.
@@ -124,7 +124,7 @@ pub fn visit_law<A: Allocator + Copy>()
 /// enough that the core holds an End of its own, since a forged frame may have brought it.
 ///
 /// Rules: Recovery 4
-pub fn ended_law<A: Allocator + Copy>()
+pub fn end_follows_wraps_law<A: Allocator + Copy>()
     ensures { (n me : ℕ) (inputs : List (Input A)) → HasEnded (after_inputs (opening n me) inputs) }
 {}
 
@@ -136,7 +136,7 @@ pub fn ended_law<A: Allocator + Copy>()
 ///
 /// Rules: Token and window 9
 pub fn packing_law<A: Allocator + Copy>()
-    ensures longest { (queue : List (Payload A)) → IsLongestRun queue (first_run queue) }
+    ensures longest { (queue : List (Payload A)) → IsLongestRun queue (longest_call_run queue) }
     ensures few { (count : ℕ) (queue : List (Payload A)) → length (packed_payloads count queue) ≤ count }
     ensures unpacked_payloads { (count : ℕ) (queue : List (Payload A)) → AreQueued queue → flat_map unpacked_payloads (packed_payloads count queue) ++ unpacked_rest count queue ≡ queue }
     ensures fits { (count : ℕ) (queue : List (Payload A)) → AllByRecursion PayloadFits queue → AllByRecursion PayloadFits (packed_payloads count queue) }
@@ -150,7 +150,7 @@ pub fn packing_law<A: Allocator + Copy>()
 /// exactly the core's sets. After an End nothing is left to wrap.
 ///
 /// Rules: Gather 3; Token and window 3, 4 and 7 to 9; Recovery 4
-pub fn world_law<A: Allocator + Copy>()
+pub fn core_laws_of_worlds<A: Allocator + Copy>()
     ensures marks { (n i : ℕ) (events : List (RingEvent A)) (ring : RingId) → mark ((run (unformed n) events).cores i)
         ring ≤ front ((run (unformed n) events).cores i) ring }
     ensures window { (n i : ℕ) (events : List (RingEvent A)) (ring : RingId) (k : ℕ)
@@ -160,7 +160,7 @@ pub fn world_law<A: Allocator + Copy>()
         ((run (unformed n) events).cores i).held ((run (unformed n) events).cores i).turns }
     ensures fresh { (n i : ℕ) (events : List (RingEvent A)) → AreFreshOf ((run (unformed n) events).cores i).me
         ((run (unformed n) events).cores i).held ((run (unformed n) events).cores i).turns }
-    ensures joins { (n i : ℕ) (events : List (RingEvent A)) → AllSaySame ((run (unformed n) events).cores i).gathering }
+    ensures joins { (n i : ℕ) (events : List (RingEvent A)) → AllHaveOwnSets ((run (unformed n) events).cores i).gathering }
     ensures ends { (n i : ℕ) (events : List (RingEvent A)) → HasEnded ((run (unformed n) events).cores i) }
 {}
 
@@ -171,35 +171,35 @@ pub fn world_law<A: Allocator + Copy>()
 /// `ring_chain_proof` states all five facts.
 ///
 /// Rules: The commit token 10
-pub fn rounds_law<A: Allocator + Copy>()
+pub fn second_round_law<A: Allocator + Copy>()
     ensures rings { (n : ℕ) (events : List (RingEvent A)) → list_all (λ i. has_rising_rings ((run (unformed n) events).cores i)) (numbers_from 1 n) ≡ true }
     ensures taken { (w : World A) (events : List (RingEvent A)) → list_all is_taken (takings w events) ≡ true }
 {}
 
-/// States [`mark_law`] for the allocator that programs use. Nothing calls this function.
+/// States [`mark_within_front_law`] for the allocator that programs use. Nothing calls this function.
 ///
 /// A law is proved for all allocators that meet its bounds; this function shows that `Global` does.
 ///
 /// Rules: Token and window 3
-pub fn laws_at_global()
+pub fn core_laws_at_global()
     ensures { (n me : ℕ) (inputs : List (Input Heap)) (ring : RingId) → mark (after_inputs (opening n me) inputs)
         ring ≤ front (after_inputs (opening n me) inputs) ring }
 {
-    front_law::<Global>();
-    bits_law::<Global>();
-    safe_law::<Global>();
+    unique_front_law::<Global>();
+    held_bits_law::<Global>();
+    two_visits_safe_law::<Global>();
     finish_law::<Global>();
     decision_law::<Global>();
-    cause_law::<Global>();
-    hop_law::<Global>();
+    transition_carries_input_law::<Global>();
+    hop_taken_by_receiver_law::<Global>();
     moves_law::<Global>();
-    rings_law::<Global>();
-    window_law::<Global>();
+    ring_numbers_rise_law::<Global>();
+    held_within_window_law::<Global>();
     agreement_law::<Global>();
     visit_law::<Global>();
-    ended_law::<Global>();
+    end_follows_wraps_law::<Global>();
     packing_law::<Global>();
-    world_law::<Global>();
-    rounds_law::<Global>();
-    mark_law::<Global>();
+    core_laws_of_worlds::<Global>();
+    second_round_law::<Global>();
+    mark_within_front_law::<Global>();
 }

@@ -21,7 +21,7 @@ use std::alloc::{Allocator, Global};
 ///
 /// Rules: Limits 1
 /// Formats: Frames
-pub fn fits_law<A: Allocator + Copy>()
+pub fn core_within_limits_law<A: Allocator + Copy>()
     ensures opens { (n me : ℕ) → 1 ≤ me → me ≤ n → n ≤ 16 → CoreFits (opening {A = A} n me) }
     ensures formed { (n me : ℕ) → 1 ≤ me → me ≤ n → n ≤ 16 → CoreFits (formed {A = A} n me) }
     ensures steps { (c : Core A) (input : Input A) → CoreFits c → InputFits input → CoreFits (ring_step c input).core }
@@ -36,19 +36,19 @@ pub fn fits_law<A: Allocator + Copy>()
 ///
 /// Rules: Limits 1
 /// Formats: Frames
-pub fn frames_law<A: Allocator + Copy>()
+pub fn frames_within_limits_law<A: Allocator + Copy>()
     ensures unformed { (n : ℕ) (events : List (RingEvent A)) → n ≤ 16 → AllByRecursion EventFits events → WorldFits (run (unformed n) events) }
     ensures formed { (n : ℕ) (events : List (RingEvent A)) → 1 ≤ n → n ≤ 16 → AllByRecursion EventFits events → WorldFits (run_formed n events) }
 {}
 
-/// States [`frames_law`] from the opening for the allocator that programs use. Nothing calls this function.
+/// States [`frames_within_limits_law`] from the opening for the allocator that programs use. Nothing calls this function.
 ///
 /// A law is proved for all allocators that meet its bounds; this function shows that `Global` does.
 ///
 /// Rules: Limits 1
-pub fn laws_at_global()
+pub fn limits_laws_at_global()
     ensures { (n : ℕ) (events : List (RingEvent Heap)) → n ≤ 16 → AllByRecursion EventFits events → WorldFits (run (unformed n) events) }
 {
-    fits_law::<Global>();
-    frames_law::<Global>();
+    core_within_limits_law::<Global>();
+    frames_within_limits_law::<Global>();
 }

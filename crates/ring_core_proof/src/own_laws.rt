@@ -36,7 +36,7 @@ pub fn local_law<A: Allocator + Copy>()
 /// every core, whatever the inputs.
 ///
 /// Rules: Rings and states 7; The commit token 5
-pub fn left_law<A: Allocator + Copy>()
+pub fn left_ring_unchanged_law<A: Allocator + Copy>()
     ensures { (c : Core A) (later : List (Input A)) (ring : RingId) → HasLeft c ring → KeepsKnowledge ring c (after_inputs c later) }
 {}
 
@@ -47,7 +47,7 @@ pub fn left_law<A: Allocator + Copy>()
 /// raised in it stay until the next recovery begins.
 ///
 /// Rules: The commit token 3, 5 and 6; Recovery 10
-pub fn between_law<A: Allocator + Copy>()
+pub fn report_unchanged_law<A: Allocator + Copy>()
     ensures { (c : Core A) (later : List (Input A)) → IsBetweenRings c → KeepsReport c (after_inputs c later) }
 {}
 
@@ -56,10 +56,10 @@ pub fn between_law<A: Allocator + Copy>()
 /// A law is proved for all allocators that meet its bounds; this function shows that `Global` does.
 ///
 /// Rules: Rings and states 2 to 7
-pub fn laws_at_global()
+pub fn own_laws_at_global()
     ensures { (n me : ℕ) (inputs : List (Input Heap)) → LocalFacts (after_inputs (opening n me) inputs) }
 {
-    left_law::<Global>();
-    between_law::<Global>();
+    left_ring_unchanged_law::<Global>();
+    report_unchanged_law::<Global>();
     local_law::<Global>();
 }

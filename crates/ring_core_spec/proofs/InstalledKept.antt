@@ -6,7 +6,7 @@ use Rattle.ring_base.specs.declared.ring_id.RingId.{RingId}
 use Rattle.ring_core_spec.specs.State.{Core, TransitionResult}
 use Rattle.ring_core_spec.specs.Deciding.{Transition, Ignore, Enqueue, Repeat, Announce, Invite, GiveUp, EnterGather, Agree, MergeJoin}
 use Rattle.ring_core_spec.specs.Deciding.{EnterGatherAndAgree, EnterGatherAndMergeJoin, Take, Visit, Fill, Learn}
-use Rattle.ring_core_spec.specs.Transitions.{apply_transition, with_proposal_if, may_propose_after, done}
+use Rattle.ring_core_spec.specs.Transitions.{apply_transition, with_proposal_if, may_propose_after, transition_and_proposal}
 use Rattle.ring_core_spec.specs.Joining.{proposes}
 use Rattle.ring_core_spec.specs.Views.{mark}
 
@@ -32,7 +32,7 @@ pub proposed_installed : {A : Type 0} (b : Bool) (did : TransitionResult A) → 
 proposed_installed true did = refl
 proposed_installed false did = refl
 
-pub done_installed : {A : Type 0} (c : Core A) (a : Transition A) → (done c a).core.installed ≡ c.installed
+pub done_installed : {A : Type 0} (c : Core A) (a : Transition A) → (transition_and_proposal c a).core.installed ≡ c.installed
 done_installed c a = proposed_installed (may_propose_after a && proposes (apply_transition c a).core) (apply_transition c a) ∙ act_installed c a
 
 -- a proposal raises no safe mark

@@ -20,8 +20,8 @@ use Rattle.ring_core_spec.specs.declared.out.Out.TheVariants.{Agreed, Safe}
 use Rattle.ring_core_spec.specs.State.{Core, TransitionResult, StepResult}
 use Rattle.ring_core_spec.specs.Views.{front, mark}
 use Rattle.ring_core_spec.specs.Deciding.{Ignore, Enqueue, decide, decide_payload}
-use Rattle.ring_core_spec.specs.Transitions.{without_sends, done}
-use Rattle.ring_core_spec.specs.Giving.{ready_then_complete, installs_in, may_install, sent, given, agreed_from, safe_from, settle, delivered}
+use Rattle.ring_core_spec.specs.Transitions.{without_sends, transition_and_proposal}
+use Rattle.ring_core_spec.specs.Giving.{ready_then_complete, installs_in, may_install, sent, agreed_and_safe_of_step, agreed_from, safe_from, with_installation_if, step_result}
 use Rattle.ring_core_spec.specs.Stepping.{ring_step}
 
 -- a core with another queue
@@ -50,7 +50,7 @@ none_agreed {A} c ring =
 pub none_safe : {A : Type 0} → (c : Core A) (ring : RingId) → safe_from c ring (mark c ring) ≡ []
 none_safe c ring = ap (λ b. if b then Safe ring (mark c ring) ∷ [] else []) (le-ltb (mark c ring) (mark c ring) (le_refl (mark c ring)))
 
-nothing_given : {A : Type 0} → (c : Core A) (q : List (Payload A)) → sent [] ++ given c (with_queue c q) ≡ []
+nothing_given : {A : Type 0} → (c : Core A) (q : List (Payload A)) → sent [] ++ agreed_and_safe_of_step c (with_queue c q) ≡ []
 nothing_given c q = ap-both (λ xs ys. xs ++ ys) (none_agreed c c.installed.ring) (none_safe c c.installed.ring)
 
 -- the same core with another queue, and no outputs
@@ -59,18 +59,18 @@ pub record IsQuiet {A : Type 0} (c : Core A) (s : StepResult A) : Type 0 where
   pub is : s ≡ record { core = with_queue c queue; outs = [] }
   pub ready : may_install (with_queue c queue) ≡ false
 
-quiet_with : {A : Type 0} → (c : Core A) → may_install c ≡ false → (q : List (Payload A)) → IsQuiet c (delivered c (without_sends (with_queue c q)))
+quiet_with : {A : Type 0} → (c : Core A) → may_install c ≡ false → (q : List (Payload A)) → IsQuiet c (step_result c (without_sends (with_queue c q)))
 quiet_with c h q =
     let ready : may_install (with_queue c q) ≡ false = installs_same c.state c q ∙ h in
-    record { queue = q; is = ap-both (λ b outs. settle b (with_queue c q) outs) ready (nothing_given c q); ready = ready }
+    record { queue = q; is = ap-both (λ b outs. with_installation_if b (with_queue c q) outs) ready (nothing_given c q); ready = ready }
 
-quiet_act : {A : Type 0} → (s : State) (c : Core A) (p : Payload A) → may_install c ≡ false → IsQuiet c (delivered c (done c (decide_payload s p)))
+quiet_act : {A : Type 0} → (s : State) (c : Core A) (p : Payload A) → may_install c ≡ false → IsQuiet c (step_result c (transition_and_proposal c (decide_payload s p)))
 quiet_act Gather c p h = quiet_with c h c.queue
 quiet_act Commit c p h = quiet_with c h c.queue
 quiet_act Recovery c p h = quiet_with c h c.queue
 quiet_act Stopped c p h = quiet_with c h c.queue
 quiet_act Operational c p h =
-    cond_both (is_queued p) (Enqueue p) Ignore (λ a. IsQuiet c (delivered c (done c a))) (λ e. quiet_with c h (c.queue ++ p ∷ [])) (λ e. quiet_with c h c.queue)
+    cond_both (is_queued p) (Enqueue p) Ignore (λ a. IsQuiet c (step_result c (transition_and_proposal c a))) (λ e. quiet_with c h (c.queue ++ p ∷ [])) (λ e. quiet_with c h c.queue)
 
 pub quiet_send : {A : Type 0} → (c : Core A) (p : Payload A) → may_install c ≡ false → IsQuiet c (ring_step c (SendInput p))
 unfolding ring_step
@@ -78,13 +78,13 @@ quiet_send c p h = quiet_act c.state c p h
 
 -- after a step no ring remains that may be installed
 
-settled_is : {A : Type 0} → (b : Bool) (c : Core A) (outs : List (Out A)) → may_install c ≡ b → may_install (settle b c outs).core ≡ false
+settled_is : {A : Type 0} → (b : Bool) (c : Core A) (outs : List (Out A)) → may_install c ≡ b → may_install (with_installation_if b c outs).core ≡ false
 settled_is false c outs h = h
 settled_is true c outs h = refl
 
-delivered_is : {A : Type 0} → (old : Core A) (d : TransitionResult A) → may_install (delivered old d).core ≡ false
-delivered_is old d = settled_is (may_install d.core) d.core (sent d.sends ++ given old d.core) refl
+delivered_is : {A : Type 0} → (old : Core A) (d : TransitionResult A) → may_install (step_result old d).core ≡ false
+delivered_is old d = settled_is (may_install d.core) d.core (sent d.sends ++ agreed_and_safe_of_step old d.core) refl
 
 pub stepped_is : {A : Type 0} → (c : Core A) (input : Input A) → may_install (ring_step c input).core ≡ false
 unfolding ring_step
-stepped_is c input = delivered_is c (done c (decide c input))
+stepped_is c input = delivered_is c (transition_and_proposal c (decide c input))

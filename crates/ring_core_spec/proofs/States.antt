@@ -10,7 +10,7 @@ use Rattle.ring_base.proofs.SameRing.{ring_same}
 use Rattle.ring_core_spec.specs.State.{Core, is_stopped}
 use Rattle.ring_core_spec.specs.Giving.{installs_in}
 use Rattle.ring_core_spec.specs.Joining.{proposes_in}
-use Rattle.ring_core_spec.specs.Visiting.{accepts, offers}
+use Rattle.ring_core_spec.specs.Visiting.{accepts, payloads_to_send}
 use Rattle.ring_core_spec.specs.Views.{plan}
 use Rattle.ring_token.specs.Frames.{Token}
 use Rattle.ring_token.proofs.Packing.{length-packed_payloads}
@@ -46,7 +46,7 @@ accepted_ring c t h =
     ring_same t.ring c.running.ring (and_parts (same_ring t.ring c.running.ring) _ (and_parts _ _ (and_parts _ _ h).0).0).0
 
 -- at most as many payloads are offered as there is room for
-pub offers_few : {A : Type 0} → (s : State) (c : Core A) (count : ℕ) → length (offers s c count) ≤ count
+pub offers_few : {A : Type 0} → (s : State) (c : Core A) (count : ℕ) → length (payloads_to_send s c count) ≤ count
 offers_few Operational c count = length-packed_payloads count c.queue
 offers_few Recovery c count = (let xs = wraps_and_end c.me (plan c) c.running.ring c.held in let e : length
     (take count xs) ≡ min count (length xs) = length-take count xs in omega arith)

@@ -8,14 +8,14 @@ use Rattle.ring_base.specs.declared.ring_id.RingId.{RingId}
 use Rattle.ring_token.specs.Payloads.{Payload, is_queued}
 use Rattle.ring_token.specs.Frames.{CommitToken, Frame, Join, Message, Token}
 use Rattle.ring_token.specs.FrameVariants.{Message as MessageFrame, Token as TokenFrame, Join as JoinFrame, Commit as CommitFrame}
-use Rattle.ring_token.specs.Turns.{first_token}
+use Rattle.ring_token.specs.TokenVisits.{first_token}
 use Rattle.ring_join.specs.declared.join_effect.JoinEffect.{JoinEffect}
 use Rattle.ring_join.specs.declared.join_effect.JoinEffect.TheVariants.{Ignored, Agrees, Merges}
 use Rattle.ring_recover.specs.Commits.{is_at}
 use Rattle.ring_core_spec.specs.declared.input.Input.{Input}
 use Rattle.ring_core_spec.specs.declared.input.Input.TheVariants.{Frame as FrameInput, Timeout, Send}
-use Rattle.ring_base.specs.declared.kind.Kind.{Kind}
-use Rattle.ring_base.specs.declared.kind.Kind.TheVariants.{Retransmit, Join as JoinTime, Consensus, Loss}
+use Rattle.ring_base.specs.declared.timeout_kind.Kind.{Kind}
+use Rattle.ring_base.specs.declared.timeout_kind.Kind.TheVariants.{Retransmit, Join as JoinTime, Consensus, Loss}
 use Rattle.ring_base.specs.declared.state.State.{State}
 use Rattle.ring_base.specs.declared.state.State.TheVariants.{Gather, Commit, Recovery, Operational, Stopped}
 use Rattle.ring_core_spec.specs.State.{Core, floor}
@@ -23,7 +23,7 @@ use Rattle.ring_core_spec.specs.Naming.{is_named}
 use Rattle.ring_core_spec.specs.Views.{takes_number}
 use Rattle.ring_core_spec.specs.Visiting.{accepts}
 use Rattle.ring_core_spec.specs.Joining.{gather_entered, join_effect_at, is_gather_trigger}
-use Rattle.ring_core_spec.specs.Handing.{takes_first_round, takes_second_round, takes_start}
+use Rattle.ring_core_spec.specs.CommitSteps.{takes_first_round, takes_second_round, takes_start}
 
 -- A transition: what the core does with an input.
 pub data Transition (A : Type 0) : Type 0 where
@@ -170,12 +170,12 @@ decide_time Stopped kind = Ignore
 -- Payloads: queued in Operational. End and Wrapped belong to recovery, and a visit makes the Packs
 
 -- The transition for a payload in Operational.
-abbrev pub decide_user : {A : Type 0} → Payload A → Transition A
-decide_user payload = if is_queued payload then Enqueue payload else Ignore
+abbrev pub decide_in_operational : {A : Type 0} → Payload A → Transition A
+decide_in_operational payload = if is_queued payload then Enqueue payload else Ignore
 
 -- The transition for a payload, by state.
 abbrev pub decide_payload : {A : Type 0} → State → Payload A → Transition A
-decide_payload Operational payload = decide_user payload
+decide_payload Operational payload = decide_in_operational payload
 decide_payload Gather payload = Ignore
 decide_payload Commit payload = Ignore
 decide_payload Recovery payload = Ignore

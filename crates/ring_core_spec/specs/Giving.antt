@@ -9,7 +9,7 @@ use Rattle.ring_token.specs.Frames.{Message}
 use Rattle.ring_recover.specs.Windows.{found}
 use Rattle.ring_token.specs.Payloads.{is_user}
 use Rattle.ring_recover.specs.Installing.{is_ready}
-use Rattle.ring_recover.specs.Deliveries.{is_complete, rests}
+use Rattle.ring_recover.specs.Deliveries.{is_complete, rest_messages}
 use Rattle.ring_core_spec.specs.declared.out.Out.{Out}
 use Rattle.ring_core_spec.specs.declared.out.Out.TheVariants.{Send, Agreed, Safe, Trans, Rest, Regular}
 use Rattle.ring_base.specs.declared.state.State.{State}
@@ -43,12 +43,12 @@ install c = record c { state = Operational; installed = c.running; installs = c.
 -- Sends
 
 -- The sends that have a receiver: a frame to nobody is no frame.
-abbrev pub addressed : {A : Type 0} → List (OutgoingFrame A) → List (OutgoingFrame A)
-addressed sends = filter (λ s. not (s.to == nobody)) sends
+abbrev pub sends_with_receivers : {A : Type 0} → List (OutgoingFrame A) → List (OutgoingFrame A)
+sends_with_receivers sends = filter (λ s. not (s.to == nobody)) sends
 
 -- The sends as outputs.
 abbrev pub sent : {A : Type 0} → List (OutgoingFrame A) → List (Out A)
-sent sends = map (λ s. Send s.to s.frame) (addressed sends)
+sent sends = map (λ s. Send s.to s.frame) (sends_with_receivers sends)
 
 -- The frame that an output sends, if any.
 abbrev pub send_of : {A : Type 0} → Out A → Option (OutgoingFrame A)
@@ -62,8 +62,8 @@ send_of (Regular ring set) = None
 -- Deliveries
 
 -- The user messages of a ring above one number, up to another.
-abbrev pub users : {A : Type 0} → Core A → RingId → ℕ → ℕ → List (Message A)
-users c ring below upto = filter (λ (x : Message _). is_user x.payload) (filter_map (found c.held ring) (numbers_from (below + 1) (upto - below)))
+abbrev pub user_messages_between : {A : Type 0} → Core A → RingId → ℕ → ℕ → List (Message A)
+user_messages_between c ring below upto = filter (λ (x : Message _). is_user x.payload) (filter_map (found c.held ring) (numbers_from (below + 1) (upto - below)))
 
 -- These messages of a ring as agreed.
 abbrev pub all_agreed : {A : Type 0} → RingId → List (Message A) → List (Out A)
@@ -71,7 +71,7 @@ all_agreed ring xs = map (λ (x : Message _). Agreed ring x.number x) xs
 
 -- The messages that the front newly covers, as agreed.
 abbrev pub agreed_from : {A : Type 0} → Core A → RingId → ℕ → List (Out A)
-agreed_from c ring before = all_agreed ring (users c ring before (front c ring))
+agreed_from c ring before = all_agreed ring (user_messages_between c ring before (front c ring))
 
 -- The new safe mark, if it rose.
 abbrev pub safe_from : {A : Type 0} → Core A → RingId → ℕ → List (Out A)
@@ -82,22 +82,22 @@ abbrev pub delivered_from : {A : Type 0} → Core A → RingId → ℕ → ℕ �
 delivered_from c ring front_before mark_before = agreed_from c ring front_before ++ safe_from c ring mark_before
 
 -- Both, for the ring that was installed at the start of the step.
-abbrev pub given : {A : Type 0} → Core A → Core A → List (Out A)
-given old new = delivered_from new old.installed.ring (front old old.installed.ring) (mark old old.installed.ring)
+abbrev pub agreed_and_safe_of_step : {A : Type 0} → Core A → Core A → List (Out A)
+agreed_and_safe_of_step old new = delivered_from new old.installed.ring (front old old.installed.ring) (mark old old.installed.ring)
 
 -- The outputs of an installation: the transitional configuration with the rest of the old ring, then the regular one
 -- with what is agreed and safe of the new ring.
 abbrev pub installation_outputs : {A : Type 0} → Core A → List (Out A)
 installation_outputs c =
     Trans c.installed.ring c.running.ring (plan c).transitional_members ∷
-    (map (λ x. Rest x.ring x.number x) (rests (plan c) c.held) ++ Regular c.running.ring c.running.members ∷ delivered_from c c.running.ring 0 0)
+    (map (λ x. Rest x.ring x.number x) (rest_messages (plan c) c.held) ++ Regular c.running.ring c.running.members ∷ delivered_from c c.running.ring 0 0)
 
 -- The end of a step: the core as it is, or with its running ring installed and the outputs of that added.
-abbrev pub settle : {A : Type 0} → Bool → Core A → List (Out A) → StepResult A
-settle false c outs = record { core = c; outs = outs }
-settle true c outs = record { core = install c; outs = outs ++ installation_outputs c }
+abbrev pub with_installation_if : {A : Type 0} → Bool → Core A → List (Out A) → StepResult A
+with_installation_if false c outs = record { core = c; outs = outs }
+with_installation_if true c outs = record { core = install c; outs = outs ++ installation_outputs c }
 
 -- The result of a step, from the core before it and the applied transition: the sends, what is agreed and safe of the
 -- ring that was installed, and perhaps an installation.
-abbrev pub delivered : {A : Type 0} → Core A → TransitionResult A → StepResult A
-delivered old did = settle (may_install did.core) did.core (sent did.sends ++ given old did.core)
+abbrev pub step_result : {A : Type 0} → Core A → TransitionResult A → StepResult A
+step_result old did = with_installation_if (may_install did.core) did.core (sent did.sends ++ agreed_and_safe_of_step old did.core)

@@ -3,7 +3,7 @@ pub mod Naming
 pub mod Views
 pub mod Visiting
 pub mod Joining
-pub mod Handing
+pub mod CommitSteps
 pub mod Giving
 pub mod Deciding
 pub mod Transitions

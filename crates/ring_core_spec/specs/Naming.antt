@@ -4,7 +4,7 @@ use Rattle.std.specs.Prelude.{ℕ, Bool, true, ◌&&◌, nat_le, Option, Some, N
 use Rattle.std.specs.List.{list_all}
 use Rattle.ring_base.specs.Processors.{within, everybody}
 use Rattle.ring_base.specs.declared.ring_id.RingId.{RingId}
-use Rattle.ring_token.specs.Payloads.{Content, Payload}
+use Rattle.ring_token.specs.Payloads.{WrappedPayload, Payload}
 use Rattle.ring_token.specs.ContentVariants.{Call as CallContent, Head as HeadContent, Part as PartContent, Pack as PackContent, Snap as SnapContent}
 use Rattle.ring_token.specs.PayloadVariants.{Call, Wrapped, End, Head, Part, Pack, Snap}
 use Rattle.ring_token.specs.Frames.{CommitEntry, Frame}
@@ -22,7 +22,7 @@ holder_named n (Some i) = nat_le i n
 
 -- Every processor that the content of a Wrapped names is at most n: only a Head names one, the representative of its
 -- last primary.
-abbrev pub content_named : {A : Type 0} → ℕ → Content A → Bool
+abbrev pub content_named : {A : Type 0} → ℕ → WrappedPayload A → Bool
 content_named n (CallContent call) = true
 content_named n (HeadContent head) = last_named n head.last
 content_named n (PartContent part) = true

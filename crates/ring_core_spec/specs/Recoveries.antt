@@ -1,5 +1,5 @@
 -- Definitions of recovery, re-exported for the crates above the ring core.
-pub use Rattle.ring_recover.specs.Deliveries.{rests, is_complete, transitional_part, past_gap_part, is_from_transitional_member, is_from_transitional_member_if_there, SameText}
+pub use Rattle.ring_recover.specs.Deliveries.{rest_messages, is_complete, transitional_part, past_gap_part, is_from_transitional_member, is_from_transitional_member_if_there, SameText}
 pub use Rattle.ring_recover.specs.Deliveries.{delivery, finish}
 pub use Rattle.ring_recover.specs.Plans.{plan_of, low, is_reported, safe, is_known, Plan, gap, known_above_safe, least, transitional_members_among}
 pub use Rattle.ring_recover.specs.Plans.{least_mark}

@@ -6,7 +6,7 @@ use Rattle.ring_base.specs.Processors.{has, only, everybody, elements}
 use Rattle.ring_base.specs.declared.ring_id.RingId.{RingId}
 use Rattle.ring_token.specs.Payloads.{Payload}
 use Rattle.ring_token.specs.Frames.{CommitToken, CommitEntry, Frame, Message}
-use Rattle.ring_token.specs.Turns.{TokenVisit, Raise}
+use Rattle.ring_token.specs.TokenVisits.{TokenVisit, MarkRaise}
 use Rattle.ring_join.specs.Gathering.{Gathering, gathering_opening}
 use Rattle.ring_recover.specs.Commits.{Configuration}
 use Rattle.ring_core_spec.specs.declared.out.Out.{Out}
@@ -67,7 +67,7 @@ pub record Core (A : Type 0) : Type 0 where
   pub held : List (Message A)
   -- The visits of the token, and the safe marks of old rings raised by plans.
   pub turns : List (TokenVisit A)
-  pub raises : List Raise
+  pub raises : List MarkRaise
   -- The node's own reports, and the full commit tokens with which it entered Recovery.
   pub reports : List Report
   pub plans : List CommitToken
@@ -89,8 +89,8 @@ pub record StepResult (A : Type 0) : Type 0 where
 -- Openings
 
 -- The opening ring of a processor: (0, me), with only itself as a member.
-abbrev pub alone : ℕ → Configuration
-alone me = record { ring = record { seq = 0; rep = me }; members = only me }
+abbrev pub opening_ring : ℕ → Configuration
+opening_ring me = record { ring = record { seq = 0; rep = me }; members = only me }
 
 -- The core of processor me of n at the opening.
 abbrev pub opening : {A : Type 0} → ℕ → ℕ → Core A
@@ -99,13 +99,13 @@ opening n me =
       me = me;
       total = n;
       state = Gather;
-      running = alone me;
-      installed = alone me;
+      running = opening_ring me;
+      installed = opening_ring me;
       gathering = gathering_opening (everybody n);
       last_sent = None;
       queue = [];
-      rings = alone me ∷ [];
-      installs = alone me ∷ [];
+      rings = opening_ring me ∷ [];
+      installs = opening_ring me ∷ [];
       held = [];
       turns = [];
       raises = [];
@@ -114,12 +114,12 @@ opening n me =
     }
 
 -- The formed ring: (1, 1), of all n.
-abbrev pub all_of : ℕ → Configuration
-all_of n = record { ring = record { seq = 1; rep = 1 }; members = everybody n }
+abbrev pub formed_ring_of : ℕ → Configuration
+formed_ring_of n = record { ring = record { seq = 1; rep = 1 }; members = everybody n }
 
 -- The core of processor me of n in the formed ring, with nothing held.
 abbrev pub formed : {A : Type 0} → ℕ → ℕ → Core A
-formed n me = record (opening n me) { state = Operational; running = all_of n; installed = all_of n; rings = all_of n ∷ []; installs = all_of n ∷ [] }
+formed n me = record (opening n me) { state = Operational; running = formed_ring_of n; installed = formed_ring_of n; rings = formed_ring_of n ∷ []; installs = formed_ring_of n ∷ [] }
 
 -- A core after a stop.
 abbrev pub halted : {A : Type 0} → Core A → Core A

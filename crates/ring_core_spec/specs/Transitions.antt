@@ -2,7 +2,7 @@
 -- Rules: Gather 7, 8, 10, 11 and 13; Recovery 6
 use Rattle.std.specs.Prelude.{Bool, true, false, ◌&&◌, List, [], ◌∷◌, ◌++◌, Option, Some, None}
 use Rattle.ring_token.specs.Frames.{Message}
-use Rattle.ring_join.specs.Gathering.{agreed, join_merged, silent_given_up}
+use Rattle.ring_join.specs.Gathering.{with_agreement, join_merged, silent_given_up}
 use Rattle.ring_recover.specs.Wrapping.{inner_messages}
 use Rattle.ring_base.specs.declared.state.State.{State}
 use Rattle.ring_base.specs.declared.state.State.TheVariants.{Gather, Commit, Recovery, Operational, Stopped}
@@ -10,7 +10,7 @@ use Rattle.ring_core_spec.specs.State.{Core, OutgoingFrame, TransitionResult}
 use Rattle.ring_core_spec.specs.Views.{mark}
 use Rattle.ring_core_spec.specs.Visiting.{token_visited}
 use Rattle.ring_core_spec.specs.Joining.{gather_entered, with_gathering, join_announcement, join_invitation, proposes}
-use Rattle.ring_core_spec.specs.Handing.{after_proposal, commit_filled, commit_learned}
+use Rattle.ring_core_spec.specs.CommitSteps.{after_proposal, commit_filled, commit_learned}
 use Rattle.ring_core_spec.specs.Deciding.{Transition, Ignore, Enqueue, Repeat, Announce, Invite, GiveUp, EnterGather, Agree, MergeJoin}
 use Rattle.ring_core_spec.specs.Deciding.{EnterGatherAndAgree, EnterGatherAndMergeJoin, Take, Visit, Fill, Learn}
 
@@ -49,9 +49,9 @@ apply_transition c Announce = with_announcement c
 apply_transition c Invite = record { core = c; sends = join_invitation c ∷ [] }
 apply_transition c GiveUp = with_announcement (with_gathering c (silent_given_up c.me c.gathering))
 apply_transition c EnterGather = with_announcement (gather_entered c)
-apply_transition c (Agree j) = without_sends (with_gathering c (agreed c.gathering j))
+apply_transition c (Agree j) = without_sends (with_gathering c (with_agreement c.gathering j))
 apply_transition c (MergeJoin j) = with_announcement (with_gathering c (join_merged c.me c.gathering j))
-apply_transition c (EnterGatherAndAgree j) = with_announcement (with_gathering (gather_entered c) (agreed (gather_entered c).gathering j))
+apply_transition c (EnterGatherAndAgree j) = with_announcement (with_gathering (gather_entered c) (with_agreement (gather_entered c).gathering j))
 apply_transition c (EnterGatherAndMergeJoin j) = with_announcement (with_gathering (gather_entered c) (join_merged c.me (gather_entered c).gathering j))
 apply_transition c (Take x) = without_sends (message_taken c x)
 apply_transition c (Visit t) = token_visited c t
@@ -84,9 +84,9 @@ with_proposal_if false did = did
 with_proposal_if true did = record { core = (after_proposal did.core).core; sends = did.sends ++ (after_proposal did.core).sends }
 
 -- A transition's result, with a proposal if one may follow and the core may propose.
-abbrev pub done_by : {A : Type 0} → Bool → TransitionResult A → TransitionResult A
-done_by follows did = with_proposal_if (follows && proposes did.core) did
+abbrev pub proposal_if_may_follow : {A : Type 0} → Bool → TransitionResult A → TransitionResult A
+proposal_if_may_follow follows did = with_proposal_if (follows && proposes did.core) did
 
 -- The result of a transition, and of the proposal that may follow it.
-abbrev pub done : {A : Type 0} → Core A → Transition A → TransitionResult A
-done c a = done_by (may_propose_after a) (apply_transition c a)
+abbrev pub transition_and_proposal : {A : Type 0} → Core A → Transition A → TransitionResult A
+transition_and_proposal c a = proposal_if_may_follow (may_propose_after a) (apply_transition c a)

@@ -7,7 +7,7 @@ use Rattle.ring_base.specs.declared.ring_id.RingId.{RingId}
 use Rattle.ring_token.specs.Frames.{CommitToken, CommitEntry}
 use Rattle.ring_recover.specs.Windows.{front_of, is_new}
 use Rattle.ring_recover.specs.Windows.{held_bits}
-use Rattle.ring_token.specs.Turns.{safe_mark}
+use Rattle.ring_token.specs.TokenVisits.{safe_mark}
 use Rattle.ring_recover.specs.Plans.{Plan, plan_of}
 use Rattle.ring_core_spec.specs.State.{Core}
 

@@ -6,8 +6,8 @@ use Rattle.ring_token.specs.Payloads.{Payload, packed_payloads, unpacked_rest}
 use Rattle.ring_token.specs.FrameVariants.{Message as MessageFrame, Token as TokenFrame}
 use Rattle.ring_token.specs.Frames.{Message, Token}
 use Rattle.ring_recover.specs.Windows.{found, holds, front_of, highest, missing}
-use Rattle.ring_token.specs.Turns.{TokenVisit, is_accepted}
-use Rattle.ring_token.specs.Visits.{requests_left, above_mark, room, numbered, requests_after, token_after}
+use Rattle.ring_token.specs.TokenVisits.{TokenVisit, is_accepted}
+use Rattle.ring_token.specs.Visits.{requests_left, above_mark, max_new_messages, numbered, requests_after, token_after}
 use Rattle.ring_recover.specs.Wrapping.{wraps_and_end}
 use Rattle.ring_base.specs.declared.state.State.{State}
 use Rattle.ring_base.specs.declared.state.State.TheVariants.{Gather, Commit, Recovery, Operational, Stopped}
@@ -19,25 +19,25 @@ abbrev pub accepts : {A : Type 0} → Core A → Token → Bool
 accepts c t = is_accepted c.running.ring c.turns (highest c.held t.ring) t
 
 -- Token and window 7 (a): the requested messages that are held are sent again.
-abbrev pub repeated : {A : Type 0} → Core A → Token → List (Message A)
-repeated c t = filter_map (found c.held t.ring) (above_mark (mark c t.ring) t.requests)
+abbrev pub messages_sent_again : {A : Type 0} → Core A → Token → List (Message A)
+messages_sent_again c t = filter_map (found c.held t.ring) (above_mark (mark c t.ring) t.requests)
 
 -- Token and window 7 (b): the number of new messages that the visit has room for.
 abbrev pub room_at : {A : Type 0} → Core A → Token → ℕ
-room_at c t = room (mark c t.ring) t.seq
+room_at c t = max_new_messages (mark c t.ring) t.seq
 
 -- The payloads that a core sends, at most count: in Operational those made of its queue, in Recovery the first of its
 -- Wrapped and its End.
-abbrev pub offers : {A : Type 0} → State → Core A → ℕ → List (Payload A)
-offers Operational c count = packed_payloads count c.queue
-offers Recovery c count = take count (wraps_and_end c.me (plan c) c.running.ring c.held)
-offers Gather c count = []
-offers Commit c count = []
-offers Stopped c count = []
+abbrev pub payloads_to_send : {A : Type 0} → State → Core A → ℕ → List (Payload A)
+payloads_to_send Operational c count = packed_payloads count c.queue
+payloads_to_send Recovery c count = take count (wraps_and_end c.me (plan c) c.running.ring c.held)
+payloads_to_send Gather c count = []
+payloads_to_send Commit c count = []
+payloads_to_send Stopped c count = []
 
 -- The payloads that the visit sends as new messages.
 abbrev pub new_payloads : {A : Type 0} → Core A → Token → List (Payload A)
-new_payloads c t = offers c.state c (room_at c t)
+new_payloads c t = payloads_to_send c.state c (room_at c t)
 
 -- The new messages of the token's ring, with the numbers after its `seq`.
 abbrev pub new_messages : {A : Type 0} → Core A → Token → List (Message A)
@@ -90,5 +90,5 @@ token_visited c t =
         queue = queue_after c.state (room_at c t) c.queue;
         last_sent = Some (to_next c (token_forwarded c t));
       };
-      sends = to_others c (repeated c t ++ new_messages c t) ++ to_next c (token_forwarded c t) ∷ [];
+      sends = to_others c (messages_sent_again c t ++ new_messages c t) ++ to_next c (token_forwarded c t) ∷ [];
     }

@@ -5,14 +5,14 @@
 //! Rules: Processors and sets 5 and 6; Rings and states 3 to 14; Outputs 1 to 7
 #![tactic(auto)]
 
+mod group_check;
 pub mod input;
-mod naming;
 pub mod out;
-mod sent;
+mod outgoing_frame;
 
+pub use group_check::names_only_group;
 pub use input::Input;
-pub use naming::is_named;
 pub use out::Out;
-pub use ring_recover::{Configuration, bits_law, finish_law, front_law};
-pub use ring_token::{Call, Frame, safe_law};
-pub use sent::OutgoingFrame;
+pub use outgoing_frame::OutgoingFrame;
+pub use ring_recover::{Configuration, finish_law, held_bits_law, unique_front_law};
+pub use ring_token::{Call, Frame, two_visits_safe_law};

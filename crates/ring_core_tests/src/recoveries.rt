@@ -4,7 +4,7 @@
 use crate::rings::ring;
 use refusing_alloc::{RefusingHeap, refuse_in_turn};
 use ring_base::{Fault, Proc};
-use ring_payload::{Call, Content, Payload, Wrapped};
+use ring_payload::{Call, Payload, Wrapped, WrappedPayload};
 use ring_recover::{unwrap, wrap};
 use ring_window::Window;
 use ring_wire::Message;
@@ -16,7 +16,7 @@ fn wrapped<A: Allocator + Copy>(alloc: A, number: u64) -> Result<Wrapped<A>, Fau
         ring: ring(1),
         number,
         sender: Proc::new(1),
-        payload: Content::Call(Call::new(alloc, 7, 1, &[0])?),
+        payload: WrappedPayload::Call(Call::new(alloc, 7, 1, &[0])?),
     })
 }
 

@@ -23,7 +23,7 @@ fn refuses_only_the_request_after_those_passed(rt: HostRuntime) {
         assert!(rt; !heap.has_refused(), "before, at {passed}");
         assert!(rt; three_requests(&heap) == *want, "at {passed}");
         assert!(rt;
-            heap.requests() == 3 && heap.has_refused() == (*passed < 3),
+            heap.request_count() == 3 && heap.has_refused() == (*passed < 3),
             "at {passed}"
         );
     }
@@ -40,9 +40,13 @@ fn list_in<A: Allocator>(heap: A, room: usize) -> Result<Vec<u8, A>, AllocError>
 fn counts_growth(rt: HostRuntime) -> Result<(), AllocError> {
     let heap = RefusingHeap::new(rt.alloc(), 2);
     let mut list = list_in(&heap, 1)?;
-    assert!(rt; heap.requests() == 1 && list.reserve_exact(1).is_ok() && heap.requests() == 2);
-    assert!(rt; !list.reserve_exact(100).is_ok() && heap.requests() == 3 && heap.has_refused());
-    assert!(rt; list.reserve_exact(100).is_ok() && heap.requests() == 4);
+    assert!(rt;
+        heap.request_count() == 1 && list.reserve_exact(1).is_ok() && heap.request_count() == 2
+    );
+    assert!(rt;
+        !list.reserve_exact(100).is_ok() && heap.request_count() == 3 && heap.has_refused()
+    );
+    assert!(rt; list.reserve_exact(100).is_ok() && heap.request_count() == 4);
     assert!(rt; list.as_slice() == [7].as_slice());
     Ok(())
 }
@@ -52,7 +56,7 @@ fn counts_shrinking(rt: HostRuntime) -> Result<(), AllocError> {
     let heap = RefusingHeap::new(rt.alloc(), 9);
     let mut list = list_in(&heap, 100)?;
     list.shrink_to_fit();
-    assert!(rt; heap.requests() == 2 && list.as_slice() == [7].as_slice());
+    assert!(rt; heap.request_count() == 2 && list.as_slice() == [7].as_slice());
     Ok(())
 }
 
@@ -65,7 +69,7 @@ fn refuses_one_request_of_two_threads(rt: HostRuntime) {
         let (left, right) = thread::join(&rt, one, one);
         let refused = u8::from(left.is_err()) + u8::from(right.is_err());
         assert!(rt;
-            refused == u8::from(passed < 2) && heap.requests() == 2,
+            refused == u8::from(passed < 2) && heap.request_count() == 2,
             "at {passed}"
         );
     }

@@ -5,17 +5,17 @@ use Rattle.std.specs.Prelude.{◌==◌, not, filter_map}
 use Rattle.std.proofs.lemmas.Bool.{cond_both, cond-false, ne_eqb}
 use Rattle.std.proofs.lemmas.List.{append-nil, map-append, length-map}
 use Rattle.ring_base.specs.Numbers.{numbers_from}
-use Rattle.ring_base.specs.Passing.{length-numbers_from}
+use Rattle.ring_base.specs.FilteredRanges.{length-numbers_from}
 use Rattle.ring_base.specs.Processors.{nobody}
 use Rattle.ring_base.proofs.ListPlaces.{numbers-append, get-numbers}
 use Rattle.ring_payload.specs.declared.content.Payload.{Payload}
 use Rattle.ring_core_spec.specs.Tokens.{first_token, numbered}
 use Rattle.ring_core_spec.specs.declared.out.Out.{Out}
 use Rattle.ring_core_spec.specs.declared.out.Out.TheVariants.{Send as SendOut}
-use Rattle.ring_core_spec.specs.State.{Core, OutgoingFrame, all_of, formed}
+use Rattle.ring_core_spec.specs.State.{Core, OutgoingFrame, formed_ring_of, formed}
 use Rattle.ring_core_spec.specs.Giving.{sent}
 use Rattle.ring_core_spec.specs.Visiting.{room_at, new_payloads, to_others, to_next, token_forwarded}
-use Rattle.ring_core_proof.specs.Worlds.{put, transmission_by, transmissions_from, representative_started}
+use Rattle.ring_core_proof.specs.Worlds.{with_core, transmission_by, transmissions_from, representative_started}
 use Rattle.ring_core_proof.proofs.Lifting.{outs_carried}
 use Rattle.ring_core_proof.proofs.RunLimits.{start_fits}
 use Rattle.ring_payload.proofs.Packing.{packed_none}
@@ -29,10 +29,10 @@ one_addressed {A} s =
     cond_both (not (s.to == nobody)) (s ∷ []) [] (λ xs. length (sends xs) ≤ 1) (λ e. omega arith) (λ e. omega arith)
 
 started_sends : {A : Type 0} (n : ℕ) →
-    (representative_started {A = A} n).sends ≡ to_next {A = A} (formed n 1) (token_forwarded {A = A} (formed n 1) (first_token (all_of n).ring)) ∷ []
+    (representative_started {A = A} n).sends ≡ to_next {A = A} (formed n 1) (token_forwarded {A = A} (formed n 1) (first_token (formed_ring_of n).ring)) ∷ []
 started_sends {A} n =
     let c : Core A = formed n 1 in
-    let t = first_token (all_of n).ring in
+    let t = first_token (formed_ring_of n).ring in
     let none : new_payloads c t ≡ [] = packed_none (room_at c t) in
     ap (λ (ps : List (Payload A)). to_others c (numbered t.ring c.me t.seq ps) ++ to_next c (token_forwarded c t) ∷ []) none
 
@@ -40,7 +40,7 @@ pub started_one : {A : Type 0} (n : ℕ) (outs : List (Out A)) → outs ≡ sent
 started_one {A} n outs e =
     let c : Core A = formed n 1 in
     subst (λ (xs : List (Out A)). length xs ≤ 1) (sym (e ∙ ap (λ (xs : List (OutgoingFrame A)). sent xs) (started_sends n)))
-    (one_addressed (to_next c (token_forwarded c (first_token (all_of n).ring))))
+    (one_addressed (to_next c (token_forwarded c (first_token (formed_ring_of n).ring))))
 
 first_frames : {A : Type 0} (n : ℕ) (outs : List (Out A)) (first : Option (OutgoingFrame A)) → outs ≡ sent (representative_started {A = A} n).sends →
     opening_frames first ≡ filter_map (transmission_by 1) outs →
@@ -75,7 +75,7 @@ joined_more f first xs ys k x me low a b c d =
 
 -- The code's fields at the opening are those of its world
 
-core_at : {A : Type 0} (n i : ℕ) (c : Core A) → i < n → slice_get (c ∷ map (formed n) (numbers_from 2 (n - 1))) i ≡ Some (put (formed n) 1 c (suc i))
+core_at : {A : Type 0} (n i : ℕ) (c : Core A) → i < n → slice_get (c ∷ map (formed n) (numbers_from 2 (n - 1))) i ≡ Some (with_core (formed n) 1 c (suc i))
 core_at n zero c l = refl
 core_at {A} n (suc i) c l =
     let f : ℕ → Core A = formed n in

@@ -3,7 +3,7 @@ use Rattle.std.proofs.Common.{◌≡◌, ℕ, suc, ◌+◌, ◌≤◌, List, []}
 use Rattle.std.proofs.Common.{map, Some, None, refl, ap, ◌∙◌, arith}
 use Rattle.std.proofs.lemmas.List.{length-map}
 use Rattle.ring_base.specs.Numbers.{numbers_from}
-use Rattle.ring_base.specs.Passing.{length-numbers_from}
+use Rattle.ring_base.specs.FilteredRanges.{length-numbers_from}
 use Rattle.ring_base.proofs.ListPlaces.{get-numbers}
 use Rattle.ring_core_spec.specs.declared.out.Out.{Out}
 use Rattle.ring_core_spec.specs.State.{Core, opening}

@@ -19,7 +19,7 @@ use Rattle.ring_core_spec.specs.declared.out.Out.{Out}
 use Rattle.ring_core_spec.specs.State.{Core, OutgoingFrame, Transmission, halted, is_stopped, frame_at, frame_for}
 use Rattle.ring_core_spec.specs.Stepping.{ring_step}
 use Rattle.ring_core_proof.specs.declared.event.RingEvent.{RingEvent}
-use Rattle.ring_core_proof.specs.Worlds.{World, happens, unformed, ring_formed, put, transmission_by, after_step, is_node, stepped_if}
+use Rattle.ring_core_proof.specs.Worlds.{World, world_after_event, unformed, ring_formed, with_core, transmission_by, after_step, is_node, stepped_if}
 use Rattle.ring_core_proof.specs.Worlds.{stepped}
 use Rattle.ring_core_proof.specs.Worlds.{stopped_if, handed_if, handed}
 use Rattle.ring_core_proof.specs.Limits.{InputFits, WorldFits}
@@ -55,7 +55,7 @@ module _ {A : Type 0} (w : World A) (cores : List (Core A)) (many : length cores
       get_or_from_slice_get cores (i - 1) (w.cores (suc (i - 1))) d (are (i - 1) (omega (arith, l, many))) ∙ ap w.cores e
 
   cores_put : (i : ℕ) (c : Core A) → 1 ≤ i → i - 1 < length cores → (j : ℕ) → j < w.total →
-      slice_get (slice_set cores (i - 1) c) j ≡ Some (put w.cores i c (suc j))
+      slice_get (slice_set cores (i - 1) c) j ≡ Some (with_core w.cores i c (suc j))
   cores_put i c low l j h =
       elim (cases_Bool (suc j == i)) [
         | inl t ↦
@@ -146,18 +146,18 @@ handed_is w i (Some f) = hands_if (has f.to i) w i f.frame
 -- Runs
 
 ran_more : {A : Type 0} (formed : Bool) (count : ℕ) (events : List (RingEvent A)) (e : RingEvent A) →
-    ran_from formed count (events ++ e ∷ []) ≡ happens (ran_from formed count events) e
+    ran_from formed count (events ++ e ∷ []) ≡ world_after_event (ran_from formed count events) e
 ran_more false count events e = cores-append (unformed count) events (e ∷ [])
 ran_more true count events e = cores-append (ring_formed count) events (e ∷ [])
 
 -- the world after one more event
-pub world_more : {A : Type 0} (r : WorldRun A) (e : RingEvent A) → world_of (more r e) ≡ happens (world_of r) e
+pub world_more : {A : Type 0} (r : WorldRun A) (e : RingEvent A) → world_of (more r e) ≡ world_after_event (world_of r) e
 world_more r e = ran_more r.formed r.count r.events e
 
 -- the code's fields are those of the world after one more event
 pub tells : {A : Type 0} (r s : WorldRun A) (e : RingEvent A) (w : World A) (cores : List (Core A)) (first : Option (OutgoingFrame A)) (outs : List (ℕ × Out A))
     (places : List ℕ) →
-    s ≡ more r e → happens (world_of r) e ≡ w → IsWorld w cores first outs places → IsWorld (world_of s) cores first outs places
+    s ≡ more r e → world_after_event (world_of r) e ≡ w → IsWorld w cores first outs places → IsWorld (world_of s) cores first outs places
 tells r s e w cores first outs places a b h = subst (λ v. IsWorld v cores first outs places) (sym (ap world_of a ∙ world_more r e ∙ b)) h
 
 -- Frames keep the limits
@@ -192,7 +192,7 @@ module _ {A : Type 0} (r s : WorldRun A) (e : RingEvent A) (cores : List (Core A
 
   -- a core takes a step
   pub stepped_tells : (input : Input A) (core : Core A) (given : List (Out A)) (outs' : List (ℕ × Out A)) (places' : List ℕ) →
-      happens (world_of r) e ≡ stepped (world_of r) i input → InputFits input → core ≡ (ring_step old input).core → given ≡ (ring_step old input).outs →
+      world_after_event (world_of r) e ≡ stepped (world_of r) i input → InputFits input → core ≡ (ring_step old input).core → given ≡ (ring_step old input).outs →
       outs' ≡ outs ++ map (λ o. (i, o)) given → places' ≡ places_from 0 outs' → IsWorld (world_of s) (slice_set cores (m - 1) core) first outs' places'
   stepped_tells input core given outs' places' w fits c g o p =
       let set = ap (λ k. slice_set cores (k - 1) core) same ∙ ap (slice_set cores (i - 1)) (c ∙ ap (λ (d : Core A). (ring_step d input).core) old_is) in
@@ -201,7 +201,7 @@ module _ {A : Type 0} (r s : WorldRun A) (e : RingEvent A) (cores : List (Core A
       (steps (world_of r) cores first outs places h i input (slice_set cores (m - 1) core) outs' places' low l fits set gave p)
 
   -- a core stops
-  pub halted_tells : (core : Core A) → happens (world_of r) e ≡ stopped_if (is_node (world_of r) i) (world_of r) i → core ≡ halted old →
+  pub halted_tells : (core : Core A) → world_after_event (world_of r) e ≡ stopped_if (is_node (world_of r) i) (world_of r) i → core ≡ halted old →
       IsWorld (world_of s) (slice_set cores (m - 1) core) first outs places
   halted_tells core w c =
       let set = ap (λ k. slice_set cores (k - 1) core) same ∙ ap (slice_set cores (i - 1)) (c ∙ ap halted old_is) in

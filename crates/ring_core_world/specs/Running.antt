@@ -9,7 +9,7 @@ use Rattle.ring_core_spec.specs.declared.out.Out.{Out}
 use Rattle.ring_core_spec.specs.declared.out.Out.TheVariants.{Send as SendOut, Agreed, Safe, Trans, Rest, Regular}
 use Rattle.ring_core_spec.specs.State.{Core, OutgoingFrame, Transmission}
 use Rattle.ring_core_proof.specs.declared.event.RingEvent.{RingEvent}
-use Rattle.ring_core_proof.specs.Worlds.{World, acts_on_formed, transmission_by, unformed, ring_formed, run}
+use Rattle.ring_core_proof.specs.Worlds.{World, has_effect_on_formed, transmission_by, unformed, ring_formed, run}
 use Rattle.ring_core_proof.specs.Limits.{WorldFits}
 
 -- Openings and events
@@ -48,7 +48,7 @@ run_extended r events = record r { events = r.events ++ events }
 
 -- An event has an effect: from a formed ring some have, from Gather all.
 abbrev pub acts : {A : Type 0} → Bool → RingEvent A → Bool
-acts formed event = not formed || acts_on_formed event
+acts formed event = not formed || has_effect_on_formed event
 
 -- What the code keeps
 

@@ -8,11 +8,11 @@ ghost use Rattle.ring_base.specs.Numbers.{numbers_from};
 ghost use Rattle.ring_core_spec.specs.State.{formed, opening, frame_at, frame_for};
 ghost use Rattle.ring_core_proof.specs.Limits.{EventFits, InputFits};
 ghost use Rattle.ring_core_proof.specs.declared.event.RingEvent.TheVariants.{Deliver, Stop};
-ghost use Rattle.ring_core_proof.specs.Worlds.{transmission_by, stepped, happens};
+ghost use Rattle.ring_core_proof.specs.Worlds.{transmission_by, stepped, world_after_event};
 ghost use Rattle.ring_core_world.specs.Running.{places_from, places_of, step_outputs, world_of, more, empty_run, empty_formed_run, opening_frames};
 
-use crate::history::{WorldHistory, more, ring_formed, unformed};
-use crate::sent::{copied, copied_payload, later_frame, numbered_frame};
+use crate::frame_lookup::{copied_frame, copied_payload, formed_ring_frame, numbered_frame};
+use crate::history::{WorldHistory, history_of_unformed, history_with_event, ring_formed};
 use ring_base::{Fault, Fixed, Ghost, Proc};
 use ring_core_proof::RingEvent;
 use ring_core_spec::{Input, Out, OutgoingFrame};
@@ -27,11 +27,11 @@ use std::marker::Model;
 ///
 /// Rules: Rings and states 14
 #[derive(Drop)]
-pub struct Cores<A: Allocator + Copy = Global> {
+pub struct CoreWorld<A: Allocator + Copy = Global> {
     /// The core of processor i is at index i - 1.
     cores: Vec<Srp<A>, A>,
     /// In a formed ring, frame 1: the frame that the representative sent at the opening.
-    first: Option<OutgoingFrame<A>>,
+    opening_frame: Option<OutgoingFrame<A>>,
     /// All outputs in order, each with its processor.
     outs: Vec<(Proc, Out<A>), A>,
     /// The index in `outs` of each frame sent.
@@ -39,34 +39,34 @@ pub struct Cores<A: Allocator + Copy = Global> {
     history: Ghost<WorldHistory<A>>,
 }
 
-impl<A: Allocator + Copy> Model for Cores<A> {
+impl<A: Allocator + Copy> Model for CoreWorld<A> {
     ghost use Rattle.ring_core_world.specs.Running.{WorldRun, IsWorld, world_of};
 
     ghost Value = { WorldRun A };
 
     ghost view = { λ w. w.history.value };
 
-    ghost invariant = { λ w. IsWorld (world_of w.history.value) w.cores.items w.first w.outs.items w.places.items };
+    ghost invariant = { λ w. IsWorld (world_of w.history.value) w.cores.items w.opening_frame w.outs.items w.places.items };
 }
 
-impl<A: Allocator + Copy> Cores<A> {
+impl<A: Allocator + Copy> CoreWorld<A> {
     /// Creates the world at the opening: each processor 1 to N is alone in Gather, and no frame has been sent.
     ///
     /// Errors: `Memory` if an allocation fails.
     ///
     /// Rules: Rings and states 5 and 14
-    pub fn unformed(alloc: A, fixed: Fixed) -> Result<Cores<A>, Fault>
+    pub fn unformed(alloc: A, fixed: Fixed) -> Result<CoreWorld<A>, Fault>
         ensures ok { IfOk result (λ world. world ≡ empty_run fixed.count) }
         ensures refused { IfErr result (λ fault. fault ≡ Memory) }
     {
         let count = fixed.count();
-        let cores = opened(alloc, fixed, count)?;
+        let cores = cores_at_opening(alloc, fixed, count)?;
         let outs = Vec::new(alloc);
         let places = Vec::new(alloc);
-        let history = unformed(fixed);
-        Ok(Cores {
+        let history = history_of_unformed(fixed);
+        Ok(CoreWorld {
             cores,
-            first: None,
+            opening_frame: None,
             outs,
             places,
             history,
@@ -80,20 +80,20 @@ impl<A: Allocator + Copy> Cores<A> {
     /// Errors: `Memory` if an allocation fails.
     ///
     /// Rules: Rings and states 14
-    pub fn formed(alloc: A, fixed: Fixed) -> Result<Cores<A>, Fault>
+    pub fn formed(alloc: A, fixed: Fixed) -> Result<CoreWorld<A>, Fault>
         ensures ok { IfOk result (λ world. world ≡ empty_formed_run fixed.count) }
         ensures refused { IfErr result (λ fault. fault ≡ Memory) }
     {
         let count = fixed.count();
         let (core, sent) = Srp::representative_started(alloc, fixed)?;
-        let first = sent_first(sent);
-        let cores = in_ring(alloc, fixed, count, core)?;
+        let first = opening_frame(sent);
+        let cores = cores_in_formed_ring(alloc, fixed, count, core)?;
         let outs = Vec::new(alloc);
         let places = Vec::new(alloc);
         let history = ring_formed(fixed);
-        Ok(Cores {
+        Ok(CoreWorld {
             cores,
-            first,
+            opening_frame: first,
             outs,
             places,
             history,
@@ -108,7 +108,7 @@ impl<A: Allocator + Copy> Cores<A> {
     /// Errors: `Memory` if an allocation fails; the world is lost.
     ///
     /// Rules: Rings and states 14
-    pub fn happens(self, event: &RingEvent<A>) -> Result<Cores<A>, Fault>
+    pub fn apply_event(self, event: &RingEvent<A>) -> Result<CoreWorld<A>, Fault>
         requires { EventFits event.now }
         ensures ok { IfOk result (λ world. world ≡ more self event.now) }
         ensures refused { IfErr result (λ fault. fault ≡ Memory) }
@@ -125,14 +125,14 @@ impl<A: Allocator + Copy> Cores<A> {
     }
 
     /// Delivers frame `number` to a processor, if it was sent to this processor.
-    fn deliver(self, node: Proc, number: u64, event: &RingEvent<A>) -> Result<Cores<A>, Fault>
+    fn deliver(self, node: Proc, number: u64, event: &RingEvent<A>) -> Result<CoreWorld<A>, Fault>
         requires { event.now ≡ Deliver node number }
         ensures ok { IfOk result (λ world. world ≡ more self event.now) }
         ensures refused { IfErr result (λ fault. fault ≡ Memory) }
     {
         let frame = match self.frame_to(node, number) {
-            Some(frame) => copied(frame)?,
-            None => return Ok(self.idle(event)),
+            Some(frame) => copied_frame(frame)?,
+            None => return Ok(self.record_idle_event(event)),
         };
         self.step(node, Input::Frame(frame), event)
     }
@@ -143,27 +143,32 @@ impl<A: Allocator + Copy> Cores<A> {
     {
         let places = self.places.as_slice();
         let outs = self.outs.as_slice();
-        match &self.first {
-            Some(first) => later_frame(first, places, outs, node, number),
+        match &self.opening_frame {
+            Some(first) => formed_ring_frame(first, places, outs, node, number),
             None => numbered_frame(places, outs, node, number),
         }
     }
 
     /// Runs one step of a processor's core. An unknown processor changes nothing.
-    fn step(mut self, node: Proc, input: Input<A>, event: &RingEvent<A>) -> Result<Cores<A>, Fault>
+    fn step(
+        mut self,
+        node: Proc,
+        input: Input<A>,
+        event: &RingEvent<A>,
+    ) -> Result<CoreWorld<A>, Fault>
         requires fits { InputFits input }
-        requires same { happens (world_of self) event.now ≡ stepped (world_of self) node input }
+        requires same { world_after_event (world_of self) event.now ≡ stepped (world_of self) node input }
         ensures ok { IfOk result (λ world. world ≡ more self event.now) }
         ensures refused { IfErr result (λ fault. fault ≡ Memory) }
     {
         let place = usize::from(node.number()) - 1;
         if place >= self.cores.len() {
-            return Ok(self.idle(event));
+            return Ok(self.record_idle_event(event));
         }
         let stepped = self.cores[place].step(input);
         match record_step(&mut self.outs, &mut self.places, node, stepped) {
             Ok(()) => {
-                self.history = more(&self.history, event);
+                self.history = history_with_event(&self.history, event);
                 Ok(self)
             }
             Err(fault) => Err(fault),
@@ -171,25 +176,25 @@ impl<A: Allocator + Copy> Cores<A> {
     }
 
     /// Stops a processor's core. An unknown processor changes nothing.
-    fn stop(mut self, node: Proc, event: &RingEvent<A>) -> Cores<A>
+    fn stop(mut self, node: Proc, event: &RingEvent<A>) -> CoreWorld<A>
         requires { event.now ≡ Stop node }
         ensures { result ≡ more self event.now }
     {
         let place = usize::from(node.number()) - 1;
         if place >= self.cores.len() {
-            return self.idle(event);
+            return self.record_idle_event(event);
         }
         self.cores[place].stop();
-        self.history = more(&self.history, event);
+        self.history = history_with_event(&self.history, event);
         self
     }
 
     /// Records an event that changes nothing.
-    fn idle(mut self, event: &RingEvent<A>) -> Cores<A>
-        requires { happens (world_of self) event.now ≡ world_of self }
+    fn record_idle_event(mut self, event: &RingEvent<A>) -> CoreWorld<A>
+        requires { world_after_event (world_of self) event.now ≡ world_of self }
         ensures { result ≡ more self event.now }
     {
-        self.history = more(&self.history, event);
+        self.history = history_with_event(&self.history, event);
         self
     }
 
@@ -217,7 +222,11 @@ impl<A: Allocator + Copy> Cores<A> {
 }
 
 /// Returns the cores of all processors at the opening.
-fn opened<A: Allocator + Copy>(alloc: A, fixed: Fixed, count: u8) -> Result<Vec<Srp<A>, A>, Fault>
+fn cores_at_opening<A: Allocator + Copy>(
+    alloc: A,
+    fixed: Fixed,
+    count: u8,
+) -> Result<Vec<Srp<A>, A>, Fault>
     requires count { count ≡ fixed.count }
     requires few { count ≤ 16 }
     ensures ok { IfOk result (λ cores. cores.items ≡ map (opening fixed.count) (numbers_from 1 count)) }
@@ -233,7 +242,7 @@ fn opened<A: Allocator + Copy>(alloc: A, fixed: Fixed, count: u8) -> Result<Vec<
 }
 
 /// Returns the cores of all processors in the formed ring, with the representative's core as the first.
-fn in_ring<A: Allocator + Copy>(
+fn cores_in_formed_ring<A: Allocator + Copy>(
     alloc: A,
     fixed: Fixed,
     count: u8,
@@ -256,17 +265,17 @@ fn in_ring<A: Allocator + Copy>(
 }
 
 /// Returns the frame of the last output, if it is a send.
-fn sent_first<A: Allocator + Copy>(mut outs: Vec<Out<A>, A>) -> Option<OutgoingFrame<A>>
+fn opening_frame<A: Allocator + Copy>(mut outs: Vec<Out<A>, A>) -> Option<OutgoingFrame<A>>
     requires { length outs.items ≤ 1 }
     ensures { opening_frames result ≡ filter_map (transmission_by 1) outs.items }
 {
     match outs.pop() {
-        Some(out) => sent_by(out),
+        Some(out) => frame_if_send(out),
         None => None,
     }
 }
 
-fn sent_by<A: Allocator + Copy>(out: Out<A>) -> Option<OutgoingFrame<A>>
+fn frame_if_send<A: Allocator + Copy>(out: Out<A>) -> Option<OutgoingFrame<A>>
     ensures { opening_frames result ≡ filter_map (transmission_by 1) (out ∷ []) }
 {
     match out {
@@ -324,13 +333,13 @@ fn record_output<A: Allocator + Copy>(
     ensures places { OnOk result (places.new.items ≡ places_from 0 outs.new.items) }
     ensures refused { IfErr result (λ fault. fault ≡ Memory) }
 {
-    let noted = record_place(places, outs.len(), &out);
+    let noted = record_send_index(places, outs.len(), &out);
     outs.push((node, out))?;
     noted
 }
 
 /// Records the index of an output, if it is a send.
-fn record_place<A: Allocator + Copy>(
+fn record_send_index<A: Allocator + Copy>(
     places: &mut Vec<usize, A>,
     at: usize,
     out: &Out<A>,

@@ -8,14 +8,14 @@ ghost use Rattle.ring_base.specs.declared.fault.Fault.TheVariants.{Memory};
 ghost use Rattle.ring_base.specs.declared.ring_id.RingId.{RingId as OneRing};
 ghost use Rattle.ring_base.specs.Numbers.{numbers_from};
 ghost use Rattle.ring_chain_proof.specs.ChainFacts.{AllIsOfFormed, OutputsAreHeld, agreed_numbers};
-ghost use Rattle.ring_core_spec.specs.State.{all_of};
+ghost use Rattle.ring_core_spec.specs.State.{formed_ring_of};
 ghost use Rattle.ring_core_spec.specs.Views.{front};
 ghost use Rattle.ring_core_proof.specs.Limits.{EventFits};
 ghost use Rattle.ring_core_proof.specs.Texts.{HasOneText};
 ghost use Rattle.ring_core_proof.specs.Worlds.{run_formed};
 
-use crate::cores::Cores;
-use crate::running::run_acting;
+use crate::cores::CoreWorld;
+use crate::running::run_events;
 use ring_base::{Fault, Fixed, Proc};
 use ring_core_proof::RingEvent;
 use ring_core_spec::Out;
@@ -31,8 +31,8 @@ use std::marker::Model;
 pub struct FixedRing<A: Allocator + Copy = Global> {
     fixed: Fixed,
     /// `None` after the run.
-    cores: Option<Cores<A>>,
-    done: u64,
+    cores: Option<CoreWorld<A>>,
+    events_done: u64,
 }
 
 impl<A: Allocator + Copy> Model for FixedRing<A> {
@@ -40,7 +40,7 @@ impl<A: Allocator + Copy> Model for FixedRing<A> {
 
     ghost Value = { SingleRun };
 
-    ghost view = { λ r. record { count = r.fixed.count; is_fresh = is_there r.cores; done = r.done } };
+    ghost view = { λ r. record { count = r.fixed.count; is_fresh = is_there r.cores; done = r.events_done } };
 
     ghost invariant = { λ r. IsUnrun (empty_formed_run r.fixed.count) r.cores };
 }
@@ -57,11 +57,11 @@ impl<A: Allocator + Copy> FixedRing<A> {
         ensures ok { IfOk result (λ ring. ring ≡ record { count = fixed.count; is_fresh = true; done = 0 }) }
         ensures refused { IfErr result (λ fault. fault ≡ Memory) }
     {
-        let cores = Cores::formed(alloc, fixed)?;
+        let cores = CoreWorld::formed(alloc, fixed)?;
         Ok(FixedRing {
             fixed,
             cores: Some(cores),
-            done: 0,
+            events_done: 0,
         })
     }
 
@@ -81,7 +81,7 @@ impl<A: Allocator + Copy> FixedRing<A> {
         ensures text { (ring : OneRing) → HasOneText (run_formed self.old.count events.now) ring }
         ensures held { OutputsAreHeld (run_formed self.old.count events.now) }
         ensures agreed { (i : ℕ) → agreed_numbers (run_formed self.old.count events.now) i
-            ≡ numbers_from 1 (front ((run_formed self.old.count events.now).cores i) (all_of self.old.count).ring) }
+            ≡ numbers_from 1 (front ((run_formed self.old.count events.now).cores i) (formed_ring_of self.old.count).ring) }
         ensures safe { AllIsOfFormed self.old.count (run_formed self.old.count events.now) }
         ensures spent { self.new.is_fresh ≡ false }
         ensures count { self.new.count ≡ self.old.count }
@@ -92,7 +92,7 @@ impl<A: Allocator + Copy> FixedRing<A> {
         // No effect at run time. The proof uses it: the group has a processor, as the laws of a formed ring require.
         prove!(self.fixed.count() >= 1);
         let cores = self.cores.take().ok_or(Fault::Memory)?;
-        run_acting(cores, true, events, &mut self.done)
+        run_events(cores, true, events, &mut self.events_done)
     }
 
     /// Returns the number of events done in the run.
@@ -103,6 +103,6 @@ impl<A: Allocator + Copy> FixedRing<A> {
     pub fn done(&self) -> u64
         ensures { result ≡ self.now.done }
     {
-        self.done
+        self.events_done
     }
 }

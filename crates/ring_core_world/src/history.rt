@@ -25,7 +25,7 @@ impl<A: Allocator + Copy> Model for WorldHistory<A> {
 }
 
 /// Returns the history of a world at the opening, without events.
-pub(crate) fn unformed<A: Allocator + Copy>(fixed: Fixed) -> Ghost<WorldHistory<A>>
+pub(crate) fn history_of_unformed<A: Allocator + Copy>(fixed: Fixed) -> Ghost<WorldHistory<A>>
     ensures { result.value ≡ empty_run fixed.count }
 {
     ghost_of(&fixed)
@@ -39,7 +39,7 @@ pub(crate) fn ring_formed<A: Allocator + Copy>(fixed: Fixed) -> Ghost<WorldHisto
 }
 
 /// Returns the history with one event added at its end.
-pub(crate) fn more<A: Allocator + Copy>(
+pub(crate) fn history_with_event<A: Allocator + Copy>(
     history: &Ghost<WorldHistory<A>>,
     event: &RingEvent<A>,
 ) -> Ghost<WorldHistory<A>>

@@ -5,12 +5,12 @@
 
 mod cores;
 mod fixed_ring;
+mod frame_lookup;
 mod history;
 mod rings;
 mod running;
-mod sent;
 
-pub use cores::Cores;
+pub use cores::CoreWorld;
 pub use fixed_ring::FixedRing;
 pub use ring_core_proof::RingEvent;
 pub use rings::Rings;

@@ -11,8 +11,8 @@ ghost use Rattle.ring_core_proof.specs.Worlds.{run, unformed};
 ghost use Rattle.ring_core_proof.specs.CommitRounds.{CommitRounds};
 ghost use Rattle.ring_synchrony_proof.specs.Synchrony.{IsVirtuallySynchronous};
 
-use crate::cores::Cores;
-use crate::running::run_acting;
+use crate::cores::CoreWorld;
+use crate::running::run_events;
 use ring_base::{Fault, Fixed, Proc};
 use ring_core_proof::RingEvent;
 use ring_core_spec::Out;
@@ -26,8 +26,8 @@ use std::marker::Model;
 pub struct Rings<A: Allocator + Copy = Global> {
     fixed: Fixed,
     /// `None` after the run.
-    cores: Option<Cores<A>>,
-    done: u64,
+    cores: Option<CoreWorld<A>>,
+    events_done: u64,
 }
 
 impl<A: Allocator + Copy> Model for Rings<A> {
@@ -35,7 +35,7 @@ impl<A: Allocator + Copy> Model for Rings<A> {
 
     ghost Value = { SingleRun };
 
-    ghost view = { λ r. record { count = r.fixed.count; is_fresh = is_there r.cores; done = r.done } };
+    ghost view = { λ r. record { count = r.fixed.count; is_fresh = is_there r.cores; done = r.events_done } };
 
     ghost invariant = { λ r. IsUnrun (empty_run r.fixed.count) r.cores };
 }
@@ -50,11 +50,11 @@ impl<A: Allocator + Copy> Rings<A> {
         ensures ok { IfOk result (λ rings. rings ≡ record { count = fixed.count; is_fresh = true; done = 0 }) }
         ensures refused { IfErr result (λ fault. fault ≡ Memory) }
     {
-        let cores = Cores::unformed(alloc, fixed)?;
+        let cores = CoreWorld::unformed(alloc, fixed)?;
         Ok(Rings {
             fixed,
             cores: Some(cores),
-            done: 0,
+            events_done: 0,
         })
     }
 
@@ -83,7 +83,7 @@ impl<A: Allocator + Copy> Rings<A> {
         ensures refused { IfErr result (λ fault. fault ≡ Memory) }
     {
         let cores = self.cores.take().ok_or(Fault::Memory)?;
-        run_acting(cores, false, events, &mut self.done)
+        run_events(cores, false, events, &mut self.events_done)
     }
 
     /// Returns the number of events done in the run.
@@ -94,6 +94,6 @@ impl<A: Allocator + Copy> Rings<A> {
     pub fn done(&self) -> u64
         ensures { result ≡ self.now.done }
     {
-        self.done
+        self.events_done
     }
 }

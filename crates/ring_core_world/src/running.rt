@@ -6,10 +6,10 @@ ghost use Rattle.std.specs.Prelude.{◌≡◌, ◌<◌, [], ◌∷◌, length, f
 ghost use Rattle.std.specs.List.{AllByRecursion};
 ghost use Rattle.ring_base.specs.declared.fault.Fault.TheVariants.{Memory};
 ghost use Rattle.ring_core_proof.specs.Limits.{EventFits};
-ghost use Rattle.ring_core_proof.specs.Worlds.{acts_on_formed};
+ghost use Rattle.ring_core_proof.specs.Worlds.{has_effect_on_formed};
 ghost use Rattle.ring_core_world.specs.Running.{world_of, run_extended, acts};
 
-use crate::cores::Cores;
+use crate::cores::CoreWorld;
 use ring_base::{Fault, Kind, Proc};
 use ring_core_proof::RingEvent;
 use ring_core_spec::Out;
@@ -23,8 +23,8 @@ use std::alloc::Allocator;
 /// Errors: `Memory` if an allocation fails; `done` is then below the number of events.
 ///
 /// Rules: Rings and states 14 and 15
-pub(crate) fn run_acting<A: Allocator + Copy>(
-    cores: Cores<A>,
+pub(crate) fn run_events<A: Allocator + Copy>(
+    cores: CoreWorld<A>,
     formed: bool,
     events: &[RingEvent<A>],
     done: &mut u64,
@@ -38,39 +38,39 @@ pub(crate) fn run_acting<A: Allocator + Copy>(
     let mut world = cores;
     *done = 0;
     for event in events {
-        world = step_if_acting(world, formed, event)?;
+        world = apply_if_effective(world, formed, event)?;
         *done += 1;
     }
     Ok(world.into_outs())
 }
 
 /// Applies an event, unless it has no effect from this opening.
-fn step_if_acting<A: Allocator + Copy>(
-    world: Cores<A>,
+fn apply_if_effective<A: Allocator + Copy>(
+    world: CoreWorld<A>,
     formed: bool,
     event: &RingEvent<A>,
-) -> Result<Cores<A>, Fault>
+) -> Result<CoreWorld<A>, Fault>
     requires { EventFits event.now }
     ensures ok { IfOk result (λ after. after ≡ run_extended world (filter (acts formed) (event.now ∷ []))) }
     ensures refused { IfErr result (λ fault. fault ≡ Memory) }
 {
-    if acts(formed, event) {
-        world.happens(event)
+    if has_effect(formed, event) {
+        world.apply_event(event)
     } else {
         Ok(world)
     }
 }
 
 /// Returns whether an event has an effect: from the opening every event does.
-fn acts<A: Allocator + Copy>(formed: bool, event: &RingEvent<A>) -> bool
+fn has_effect<A: Allocator + Copy>(formed: bool, event: &RingEvent<A>) -> bool
     ensures { result ≡ acts formed event.now }
 {
-    !formed || acts_on_formed(event)
+    !formed || has_effect_on_formed(event)
 }
 
 /// Returns whether an event has an effect from a formed ring: of the timeouts only retransmit does.
-fn acts_on_formed<A: Allocator + Copy>(event: &RingEvent<A>) -> bool
-    ensures { result ≡ acts_on_formed event.now }
+fn has_effect_on_formed<A: Allocator + Copy>(event: &RingEvent<A>) -> bool
+    ensures { result ≡ has_effect_on_formed event.now }
 {
     match event {
         RingEvent::Timeout(_, kind) => matches!(kind, Kind::Retransmit),

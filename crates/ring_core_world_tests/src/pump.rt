@@ -4,7 +4,7 @@
 use crate::steps::{happened, happens};
 use ring_base::{Fault, Fixed, Proc, ProcSet, pair_result};
 use ring_core_spec::Out;
-use ring_core_world::{Cores, RingEvent};
+use ring_core_world::{CoreWorld, RingEvent};
 use std::alloc::Allocator;
 use std::fmt::Write;
 
@@ -63,10 +63,10 @@ impl<A: Allocator + Copy> Way<A> {
 
 /// Delivers a frame to its receiver and appends the line of that event.
 fn handed<A: Allocator + Copy>(
-    cores: Cores<A>,
+    cores: CoreWorld<A>,
     (node, frame): (Proc, u64),
     lines: &mut String<A>,
-) -> Result<Cores<A>, Fault> {
+) -> Result<CoreWorld<A>, Fault> {
     let written = writeln!(lines, "hand {node} {frame}");
     let (cores, ()) = pair_result(cores, written)?;
     let event = RingEvent::Deliver(node, frame);
@@ -79,10 +79,10 @@ fn handed<A: Allocator + Copy>(
 fn told<A: Allocator + Copy>(
     alloc: A,
     fixed: Fixed,
-    cores: Cores<A>,
+    cores: CoreWorld<A>,
     line: &str,
     lines: &mut String<A>,
-) -> Result<Cores<A>, Fault> {
+) -> Result<CoreWorld<A>, Fault> {
     let written = writeln!(lines, "{line}");
     let (cores, ()) = pair_result(cores, written)?;
     happened(alloc, fixed, cores, line)
@@ -94,8 +94,8 @@ fn opened<A: Allocator + Copy>(
     fixed: Fixed,
     opening: &str,
     lines: &mut String<A>,
-) -> Result<Cores<A>, Fault> {
-    let mut cores = Cores::unformed(alloc, fixed)?;
+) -> Result<CoreWorld<A>, Fault> {
+    let mut cores = CoreWorld::unformed(alloc, fixed)?;
     for line in opening.lines() {
         cores = told(alloc, fixed, cores, line, lines)?;
     }
@@ -104,7 +104,7 @@ fn opened<A: Allocator + Copy>(
 
 /// Delivers `turns` copies, one in each turn, fewer where none is left.
 fn turn<A: Allocator + Copy>(
-    mut cores: Cores<A>,
+    mut cores: CoreWorld<A>,
     way: &mut Way<A>,
     turns: u64,
     lines: &mut String<A>,

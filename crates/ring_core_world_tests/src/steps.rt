@@ -7,7 +7,7 @@ ghost use Rattle.ring_payload.specs.Payloads.{PayloadFits};
 
 use ring_base::{Fault, Fixed, Kind, Proc, pair_result};
 use ring_core_spec::Out;
-use ring_core_world::{Cores, FixedRing, RingEvent, Rings};
+use ring_core_world::{CoreWorld, FixedRing, RingEvent, Rings};
 use ring_payload::Payload;
 use ring_wire::Wire;
 use std::alloc::Allocator;
@@ -53,21 +53,21 @@ pub(crate) fn event_of<A: Allocator + Copy>(
 }
 
 pub(crate) fn happens<A: Allocator + Copy>(
-    cores: Cores<A>,
+    cores: CoreWorld<A>,
     event: &RingEvent<A>,
-) -> Result<Cores<A>, Fault>
+) -> Result<CoreWorld<A>, Fault>
     requires { EventFits event.now }
 {
-    cores.happens(event)
+    cores.apply_event(event)
 }
 
 /// Applies the event of a line.
 pub(crate) fn happened<A: Allocator + Copy>(
     alloc: A,
     fixed: Fixed,
-    cores: Cores<A>,
+    cores: CoreWorld<A>,
     line: &str,
-) -> Result<Cores<A>, Fault> {
+) -> Result<CoreWorld<A>, Fault> {
     let event = event_of(alloc, fixed, line);
     let (cores, event) = pair_result(cores, event)?;
     let happened = happens(cores, &event);

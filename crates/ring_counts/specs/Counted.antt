@@ -1,8 +1,8 @@
 -- Frames and inputs of a node, as far as counts depend on them.
 -- Formats: Records
 use Rattle.std.specs.Prelude.{ℕ, Bool, true, false, nat_le}
-use Rattle.ring_base.specs.declared.kind.Kind.{Kind}
-use Rattle.ring_base.specs.declared.kind.Kind.TheVariants.{Retransmit, Join, Consensus, Loss}
+use Rattle.ring_base.specs.declared.timeout_kind.Kind.{Kind}
+use Rattle.ring_base.specs.declared.timeout_kind.Kind.TheVariants.{Retransmit, Join, Consensus, Loss}
 use Rattle.ring_wire.specs.declared.frame.Frame.{Frame}
 use Rattle.ring_wire.specs.declared.frame.Frame.TheVariants as frame
 use Rattle.ring_node_spec.specs.declared.input.Input.{Input}

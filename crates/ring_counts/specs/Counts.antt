@@ -2,7 +2,7 @@
 -- Formats: Records
 use Rattle.std.specs.Prelude.{ℕ, ◌+◌, ◌-◌, ◌^◌, min, Bool, true, false, List, [], ◌∷◌, fold}
 use Rattle.ring_core_spec.specs.State.{OutgoingFrame}
-use Rattle.ring_clock.specs.StepOutcomes.{has_sent}
+use Rattle.ring_clock.specs.StepOutcomes.{has_sent_frame}
 use Rattle.ring_counts.specs.Counted.{counted_frame, is_again}
 use Rattle.ring_counts.specs.declared.counted.CountedFrame.{CountedFrame}
 use Rattle.ring_counts.specs.declared.counted.CountedFrame.TheVariants as counted
@@ -107,7 +107,7 @@ counts_after_outcome i sent answers installed n = with_ring installed (with_answ
 -- The counts after a step on this input that sent these frames.
 abbrev pub counts_after_step : {A : Type 0} → CountedInput → List (OutgoingFrame A) → ℕ → Bool → NodeCounts → NodeCounts
 counts_after_step i sends answers installed n =
-    counts_after_outcome i (has_sent sends) answers installed (fold (with_send i) (with_input i n) sends)
+    counts_after_outcome i (has_sent_frame sends) answers installed (fold (with_send i) (with_input i n) sends)
 
 -- The counts after a refused input or call.
 abbrev pub counts_after_refusal : NodeCounts → NodeCounts

@@ -3,13 +3,13 @@
 //! Formats: Records
 
 ghost use Rattle.std.specs.Prelude.{◌≡◌, fold};
-ghost use Rattle.ring_clock.specs.StepOutcomes.{has_sent};
+ghost use Rattle.ring_clock.specs.StepOutcomes.{has_sent_frame};
 ghost use Rattle.ring_counts.specs.Counts.{no_counts, with_again, with_input, with_send, with_sent_frame, with_token, with_token_frame, with_token_seen};
 ghost use Rattle.ring_counts.specs.Counts.{counts_after_step, counts_after_outcome, counts_after_refusal, counts_after_submit, count_numbers};
 
 use crate::counted::{CountedFrame, CountedInput};
 use crate::frame_counts::FrameCounts;
-use ring_clock::has_sent;
+use ring_clock::has_sent_frame;
 use ring_core_spec::OutgoingFrame;
 use std::alloc::Allocator;
 
@@ -97,7 +97,7 @@ impl NodeCounts {
     {
         self.note_input(input);
         self.note_sends(input, sends);
-        self.note_outcome(input, has_sent(sends), answers, has_installed);
+        self.note_outcome(input, has_sent_frame(sends), answers, has_installed);
     }
 
     /// Counts the input of a step.
@@ -150,13 +150,13 @@ impl NodeCounts {
     pub fn note_outcome(
         &mut self,
         input: CountedInput,
-        has_sent: bool,
+        has_sent_frame: bool,
         answers: u64,
         has_installed: bool,
     )
-        ensures { self.new ≡ counts_after_outcome input has_sent answers has_installed self.old }
+        ensures { self.new ≡ counts_after_outcome input has_sent_frame answers has_installed self.old }
     {
-        self.note_input_taken(input, has_sent);
+        self.note_input_taken(input, has_sent_frame);
         self.answered = self.answered.saturating_add(answers);
         if has_installed {
             self.rings = self.rings.saturating_add(1);

@@ -6,7 +6,7 @@ use Rattle.ring_base.specs.declared.fault.Fault.TheVariants.{Memory}
 use Rattle.ring_payload.specs.declared.call.Call.{Call}
 use Rattle.ring_payload.specs.Calls.{IsNewCall, call_of}
 use Rattle.ring_node_spec.specs.Nodes.{Node}
-use Rattle.ring_node_spec.specs.Stepping.{submitted, submit_fault}
+use Rattle.ring_node_spec.specs.Stepping.{node_after_submit, submit_fault}
 use Rattle.ring_driver.specs.Driving.{DriverView, IsRefused, driver_after_call}
 
 -- the reasons why a call isn't made
@@ -23,7 +23,7 @@ not_taken d client number op (Err fault) made says = inr (made, says)
 
 -- a node that took a call, with the frames sent before
 pub taken_as : {A T : Type 0} (d : DriverView A) (n : Node A) (call : Call A) (client number : ℕ) (op : List ℕ) (r : Result T Fault)
-    → call ≡ call_of client number op → OnOk r (n ≡ submitted d.node call) → OnOk r ((record d { node = n }) ≡ driver_after_call d client number op)
+    → call ≡ call_of client number op → OnOk r (n ≡ node_after_submit d.node call) → OnOk r ((record d { node = n }) ≡ driver_after_call d client number op)
 taken_as d n call client number op (Ok x) is taken = rw (taken, is) refl
 taken_as d n call client number op (Err x) is taken = tt
 

@@ -4,14 +4,14 @@ use Rattle.std.specs.Prelude.{◌≡◌, ℕ, ◌⊎◌, Bool, false, List, [], 
 use Rattle.ring_base.specs.Group.{Group, IsInGroup}
 use Rattle.ring_base.specs.declared.fault.Fault.{Fault}
 use Rattle.ring_base.specs.declared.fault.Fault.TheVariants.{Memory, NotMember}
-use Rattle.ring_base.specs.declared.kind.Kind.{Kind}
+use Rattle.ring_base.specs.declared.timeout_kind.Kind.{Kind}
 use Rattle.ring_object.specs.Operations.{Sequential}
 use Rattle.ring_core_spec.specs.State.{OutgoingFrame}
 use Rattle.ring_payload.specs.declared.call.Call.{Call}
 use Rattle.ring_payload.specs.Calls.{call_of, IsNewCall}
 use Rattle.ring_wire.specs.declared.frame.Frame.{Frame}
 use Rattle.ring_node_spec.specs.Nodes.{Node, node_opening, node_stopped}
-use Rattle.ring_node_spec.specs.Stepping.{node_step, submitted, submit_fault}
+use Rattle.ring_node_spec.specs.Stepping.{node_step, node_after_submit, submit_fault}
 use Rattle.ring_node_spec.specs.declared.input.Input.{Input}
 use Rattle.ring_node_spec.specs.declared.input.Input.TheVariants.{Timeout}
 use Rattle.ring_node.specs.Restores.{node_restored}
@@ -79,7 +79,7 @@ driver_at object d now = driver_after_timeout object (driver_with_time d now) (f
 
 -- the driver after the submit of a client's call
 abbrev pub driver_after_call : {A : Type 0} → DriverView A → ℕ → ℕ → List ℕ → DriverView A
-driver_after_call d client number op = record d { node = submitted d.node (call_of client number op) }
+driver_after_call d client number op = record d { node = node_after_submit d.node (call_of client number op) }
 
 -- why a node is not opened: an allocation fails, or the processor is not in the group
 abbrev pub IsNotOpened : Group → ℕ → Fault → Type 0

@@ -23,7 +23,7 @@ use ring_clock::{NodeClock, Periods, is_token, step_outcome, timeout_in};
 use ring_core_spec::OutgoingFrame;
 use ring_node::{Input, Node};
 use ring_object::Object;
-use ring_order_proof::fit_laws::node_fits_law;
+use ring_order_proof::limit_laws::node_fits_law;
 use ring_payload::Call;
 use ring_session::{Answer, Ticket};
 use std::collections::VecDeque;
@@ -167,7 +167,7 @@ impl<O: Object> Driver<O> {
         ensures err { OnErr result (self.new ≡ driver_stopped self.old) }
         ensures refused { IfErr result (λ fault. fault ≡ (if is_stopped self.old.node.core.state then StoppedFault else Memory)) }
     {
-        self.step(Input::Frame(valid_frame.into_frame()))
+        self.step_and_store(Input::Frame(valid_frame.into_frame()))
     }
 
     /// Runs one step of the node on a timeout, which may come at any time.
@@ -184,7 +184,7 @@ impl<O: Object> Driver<O> {
         ensures err { OnErr result (self.new ≡ driver_stopped self.old) }
         ensures refused { IfErr result (λ fault. fault ≡ (if is_stopped self.old.node.core.state then StoppedFault else Memory)) }
     {
-        self.step(Input::Timeout(kind))
+        self.step_and_store(Input::Timeout(kind))
     }
 
     /// Passes the time `now`, in milliseconds, runs one step on the first timeout that is due, and returns that
@@ -208,7 +208,7 @@ impl<O: Object> Driver<O> {
     {
         let due = self.clock.next_due(now);
         if let Some(kind) = due {
-            self.step(Input::Timeout(kind))?;
+            self.step_and_store(Input::Timeout(kind))?;
         }
         Ok(due)
     }
@@ -239,11 +239,11 @@ impl<O: Object> Driver<O> {
         ensures refused { IfErr result (λ fault. fault ≡ (if is_stopped self.old.node.core.state then StoppedFault else Memory)) }
         ensures stops { is_stopped self.old.node.core.state ≡ false → IsOk result }
     {
-        self.step(Input::Stop)
+        self.step_and_store(Input::Stop)
     }
 
     /// Runs a step and stores its outputs.
-    fn step(&mut self, input: Input<O::Alloc>) -> Result<(), Fault>
+    fn step_and_store(&mut self, input: Input<O::Alloc>) -> Result<(), Fault>
         requires { InputFits input }
         ensures runs { OnOk result (is_stopped self.old.node.core.state ≡ false) }
         ensures ok { OnOk result (self.new ≡ driver_after_step O.sequential self.old input) }
@@ -260,7 +260,7 @@ impl<O: Object> Driver<O> {
         let outs = self.node.step(input)?;
         self.clock
             .note_step(step_outcome(timeout, is_token, outs.sends.as_slice()));
-        let has_installed = is_other_ring(ring_before, self.node.ring());
+        let has_installed = are_different_rings(ring_before, self.node.ring());
         self.has_installed = has_installed;
         self.sends = VecDeque::from_vec(outs.sends);
         self.committed = VecDeque::from_vec(outs.committed);
@@ -279,7 +279,7 @@ impl<O: Object> Driver<O> {
         ensures { IsTaken self.old self.new (option_map (λ taken. (taken.0, taken.1)) result) }
     {
         let sent = self.sends.pop_front()?;
-        Some((sent.to, ValidFrame::of(sent.frame)))
+        Some((sent.to, ValidFrame::from_valid(sent.frame)))
     }
 
     /// Takes the next call that the last step newly committed, in the order of the log, or `None` once all are taken.
@@ -359,7 +359,7 @@ impl<O: Object> Driver<O> {
 }
 
 /// Returns whether the two rings differ.
-fn is_other_ring(before: RingId, after: RingId) -> bool
+fn are_different_rings(before: RingId, after: RingId) -> bool
     ensures { result ≡ not (same_ring before after) }
 {
     before != after

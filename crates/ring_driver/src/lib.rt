@@ -13,6 +13,6 @@ mod valid_frame;
 pub use driver::Driver;
 pub use ring_clock::{NodeClock, Periods, StepOutcome, Timers, is_token, step_outcome, timeout_in};
 pub use ring_node::{Input, Node, OutgoingFrame, Outs};
-pub use ring_order_proof::fit_laws::{call_keeps_law, node_fits_law};
-pub use ring_order_proof::laws::linear_law;
+pub use ring_order_proof::limit_laws::{call_fits_snapshot_law, node_fits_law};
+pub use ring_order_proof::linear_laws::linear_law;
 pub use valid_frame::ValidFrame;

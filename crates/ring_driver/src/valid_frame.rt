@@ -43,7 +43,7 @@ impl<A: Allocator + Copy> ValidFrame<A> {
     /// Wraps a frame without a check.
     ///
     /// It must be within the limits of its format.
-    pub(crate) fn of(frame: Frame<A>) -> ValidFrame<A>
+    pub(crate) fn from_valid(frame: Frame<A>) -> ValidFrame<A>
         requires { FrameFits frame }
         ensures { result ≡ frame }
     {

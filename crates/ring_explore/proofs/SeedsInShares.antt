@@ -58,9 +58,9 @@ module _ (IsTried : Bool → Type 0) where
 
   -- The rounds from the first seed on are all of them.
   pub tried_whole : {E : Type 0} (first many : ℕ) (r : Result ExploreTotals E)
-      → IfOk r (λ (explore_totals : ExploreTotals). 0 ≤ many → AreTried IsTried (first + 0) (first + many) explore_totals.illegal)
-      → IfOk r (λ (explore_totals : ExploreTotals). AreTried IsTried first (first + many) explore_totals.illegal)
-  tried_whole first many (Ok explore_totals) h =
+      → IfOk r (λ (seed_totals : ExploreTotals). 0 ≤ many → AreTried IsTried (first + 0) (first + many) seed_totals.illegal)
+      → IfOk r (λ (seed_totals : ExploreTotals). AreTried IsTried first (first + many) seed_totals.illegal)
+  tried_whole first many (Ok seed_totals) h =
       let begin : first + 0 ≡ first = omega arith in
-      subst (λ (n : ℕ). AreTried IsTried n (first + many) explore_totals.illegal) begin (h (omega arith))
+      subst (λ (n : ℕ). AreTried IsTried n (first + many) seed_totals.illegal) begin (h (omega arith))
   tried_whole first many (Err e) h = tt

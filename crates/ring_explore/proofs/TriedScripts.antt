@@ -37,24 +37,24 @@ is_tried object forms votes lines made text script ran is_legal is_script is_mad
 -- The result of a script that ran to its end.
 pub found_tried : {O E : Type 0} (object : Sequential O) (forms : List OperationForm) (script : Script Global) (seed : ℕ) (ran : RunView Global) (text : List ℕ)
     (r : Result ExploreTotals E) → AreLinesDone object script.lines.items (run_opening script.nodes) ran text
-    → IfOk r (λ explore_totals. (is_legal : Bool) × (IsTrue is_legal ↔ IsLegal object ran.world_view) × (explore_totals.illegal ≡ illegal_of is_legal seed))
-    → IfOk r (λ explore_totals. (made votes : List ℕ) (lines : ℕ) → script_by forms made ≡ Ok (schedule_by script) → IsGeneratedBy forms votes lines made
-    → AreTried (IsTried object forms votes lines) seed (seed + 1) explore_totals.illegal)
-found_tried object forms script seed ran text (Ok explore_totals) runs h =
+    → IfOk r (λ seed_totals. (is_legal : Bool) × (IsTrue is_legal ↔ IsLegal object ran.world_view) × (seed_totals.illegal ≡ illegal_of is_legal seed))
+    → IfOk r (λ seed_totals. (made votes : List ℕ) (lines : ℕ) → script_by forms made ≡ Ok (schedule_by script) → IsGeneratedBy forms votes lines made
+    → AreTried (IsTried object forms votes lines) seed (seed + 1) seed_totals.illegal)
+found_tried object forms script seed ran text (Ok seed_totals) runs h =
     λ made votes lines is_script is_made. subst (λ (f : Option ℕ). AreTried (IsTried object forms votes lines) seed (seed + 1) f) (sym h.2)
     (tried_one (IsTried object forms votes lines) h.0 seed (is_tried object forms votes lines made text script ran h.0 is_script is_made runs h.1))
 found_tried object forms script seed ran text (Err fault) runs h = tt
 
 -- Plans with the same votes and number of lines have the same scripts.
-pub same_scripts : {O : Type 0} (object : Sequential O) (forms : List OperationForm) (a b : ExplorePlan) (from upto : ℕ) (explore_totals : Option ℕ)
-    → a.votes.now ≡ b.votes.now → a.lines ≡ b.lines → AreTried (IsTriedIn object forms a) from upto explore_totals → AreTried (IsTriedIn object forms b) from upto explore_totals
-same_scripts object forms a b from upto explore_totals votes lines tried =
-    subst (λ (v : List ℕ). AreTried (IsTried object forms v b.lines) from upto explore_totals) votes
-    (subst (λ (n : ℕ). AreTried (IsTried object forms a.votes.now n) from upto explore_totals) lines tried)
+pub same_scripts : {O : Type 0} (object : Sequential O) (forms : List OperationForm) (a b : ExplorePlan) (from upto : ℕ) (seed_totals : Option ℕ)
+    → a.votes.now ≡ b.votes.now → a.lines ≡ b.lines → AreTried (IsTriedIn object forms a) from upto seed_totals → AreTried (IsTriedIn object forms b) from upto seed_totals
+same_scripts object forms a b from upto seed_totals votes lines tried =
+    subst (λ (v : List ℕ). AreTried (IsTried object forms v b.lines) from upto seed_totals) votes
+    (subst (λ (n : ℕ). AreTried (IsTried object forms a.votes.now n) from upto seed_totals) lines tried)
 
 -- If any seed was tried, the votes are those of a group.
-pub tried_votes : {O : Type 0} (object : Sequential O) (forms : List OperationForm) (plan : ExplorePlan) (explore_totals : Option ℕ) → plan.first ≤ plan.last
-    → AreTried (IsTriedIn object forms plan) plan.first (plan.first + seeds_in plan.first plan.last) explore_totals → AreVotes plan.votes.now
+pub tried_votes : {O : Type 0} (object : Sequential O) (forms : List OperationForm) (plan : ExplorePlan) (seed_totals : Option ℕ) → plan.first ≤ plan.last
+    → AreTried (IsTriedIn object forms plan) plan.first (plan.first + seeds_in plan.first plan.last) seed_totals → AreVotes plan.votes.now
 tried_votes object forms plan None some tried =
     let within : plan.first < plan.first + seeds_in plan.first plan.last = grind (arith, some) in
     let one : IsTriedIn object forms plan true = tried plan.first (omega arith) within in

@@ -14,10 +14,10 @@ ghost use Rattle.ring_explore.specs.Explored.{AreTried, seeds_in, totals_text, I
 ghost use Rattle.ring_explore.specs.Tried.{IsTriedIn, IsNotTried, IsNotExplored};
 
 use crate::explore_totals::ExploreTotals;
-use crate::one::try_seed;
 use crate::plan::ExplorePlan;
+use crate::seed_run::try_seed;
 use ring_base::Fault;
-use ring_console::{Failure, ShelfVocabulary, StandardObjects, Vocabulary, report};
+use ring_console::{Failure, ShelfVocabulary, StandardObjects, Vocabulary, report_failure};
 use ring_failure::{NOT_LEGAL, ProgressMeter, round_end, share_begin};
 use ring_object::Object;
 use ring_script_generator::generate_script_by;
@@ -27,7 +27,7 @@ use std::thread::{self, Threads};
 use std::time::Clock;
 
 /// The number of seeds for each thread in the first round.
-const FIRST: u64 = 16;
+const FIRST_ROUND_SEEDS: u64 = 16;
 
 /// Generates the script of each seed for the standard object, runs it, and checks that its run is legal.
 ///
@@ -109,7 +109,7 @@ pub fn explore_of<
     match explore_all::<T, V, R, O, P>(rt, alloc, &plan, threads, out, progress) {
         Ok(true) => 0,
         Ok(false) => NOT_LEGAL,
-        Err(failure) => report(err, failure),
+        Err(failure) => report_failure(err, failure),
     }
 }
 
@@ -143,8 +143,8 @@ fn explore_all<
     ensures failed { IfErr result (λ failure. (failure ≡ Output) ⊎ ((out.new ≡ out.old) × IsNotExplored plan.now.votes.now failure)) }
     ensures stranger { ¬ AreVotes plan.now.votes.now → plan.now.first ≤ plan.now.last → IsErr result × (out.new ≡ out.old) }
 {
-    let explore_totals = try_all::<T, V, R, P>(rt, alloc, plan, threads, progress)?;
-    print_result::<T, V, O>(alloc, plan, &explore_totals, out)
+    let seed_totals = try_all::<T, V, R, P>(rt, alloc, plan, threads, progress)?;
+    print_result::<T, V, O>(alloc, plan, &seed_totals, out)
 }
 
 /// Prints the totals, or the script of the first illegal seed.
@@ -155,28 +155,28 @@ fn explore_all<
 fn print_result<T: Object, V: Vocabulary, O: Write>(
     alloc: Global,
     plan: &ExplorePlan<'_>,
-    explore_totals: &ExploreTotals,
+    seed_totals: &ExploreTotals,
     out: &mut O,
 ) -> Result<bool, Failure>
-    requires { AreTried (IsTriedIn T.sequential V.forms plan.now) plan.now.first (plan.now.first + seeds_in plan.now.first plan.now.last) explore_totals.now.illegal }
+    requires { AreTried (IsTriedIn T.sequential V.forms plan.now) plan.now.first (plan.now.first + seeds_in plan.now.first plan.now.last) seed_totals.now.illegal }
     ensures legal { IfOk result (λ is_legal. IsTrue is_legal
         → AreTried (IsTriedIn T.sequential V.forms plan.now) plan.now.first (plan.now.first + seeds_in plan.now.first plan.now.last) None) }
     ensures printed { IfOk result (λ is_legal. IsTrue is_legal
         → HasPrinted (O.contents out.old) (O.contents out.new) (IsTotals (seeds_in plan.now.first plan.now.last))) }
-    ensures verdict { IfOk result (λ is_legal. IsTrue is_legal ↔ (explore_totals.now.illegal ≡ None)) }
+    ensures verdict { IfOk result (λ is_legal. IsTrue is_legal ↔ (seed_totals.now.illegal ≡ None)) }
     ensures illegal { IfOk result (λ is_legal. is_legal ≡ false → (first : ℕ)
         × AreTried (IsTriedIn T.sequential V.forms plan.now) plan.now.first (plan.now.first + seeds_in plan.now.first plan.now.last) (Some first)) }
     ensures named { IfOk result (λ is_legal. is_legal ≡ false
         → HasPrinted (O.contents out.old) (O.contents out.new) (IsIllegal (IsGeneratedBy V.forms plan.now.votes.now plan.now.lines))) }
     ensures failed { IfErr result (λ failure. (failure ≡ Output) ⊎ ((out.new ≡ out.old) × IsNotExplored plan.now.votes.now failure)) }
 {
-    match explore_totals.illegal {
+    match seed_totals.illegal {
         Some(seed) => {
             print_illegal::<V, O>(alloc, plan, seed, out)?;
             Ok(false)
         }
         None => {
-            print_totals(plan.many(), explore_totals, out)?;
+            print_totals(plan.seed_count(), seed_totals, out)?;
             Ok(true)
         }
     }
@@ -203,15 +203,15 @@ fn print_illegal<V: Vocabulary, O: Write>(
 /// Errors: `Output` if `out` fails.
 fn print_totals<O: Write>(
     seeds: u64,
-    explore_totals: &ExploreTotals,
+    seed_totals: &ExploreTotals,
     out: &mut O,
 ) -> Result<(), Failure>
     ensures printed { OnOk result (Appends (O.contents out.old) (O.contents out.new)
-        (totals_text seeds explore_totals.now.events explore_totals.now.calls explore_totals.now.answered explore_totals.now.rings)) }
+        (totals_text seeds seed_totals.now.events seed_totals.now.calls seed_totals.now.answered seed_totals.now.rings)) }
     ensures failed { IfErr result (λ failure. failure ≡ Output) }
 {
-    let (events, calls) = (explore_totals.events, explore_totals.calls);
-    let (answered, rings) = (explore_totals.answered, explore_totals.rings);
+    let (events, calls) = (seed_totals.events, seed_totals.calls);
+    let (answered, rings) = (seed_totals.answered, seed_totals.rings);
     writeln!(
         out,
         "seeds {seeds}\nevents {events}\ncalls {calls}\nanswered {answered}\nrings {rings}\nlegal yes"
@@ -234,21 +234,21 @@ fn try_all<
     threads: u16,
     progress: Option<&mut P>,
 ) -> Result<ExploreTotals, Fault>
-    ensures ok { IfOk result (λ explore_totals.
-        AreTried (IsTriedIn O.sequential V.forms plan.now) plan.now.first (plan.now.first + seeds_in plan.now.first plan.now.last) explore_totals.illegal) }
+    ensures ok { IfOk result (λ seed_totals.
+        AreTried (IsTriedIn O.sequential V.forms plan.now) plan.now.first (plan.now.first + seeds_in plan.now.first plan.now.last) seed_totals.illegal) }
     ensures refused { IfErr result (IsNotTried plan.now.votes.now) }
 {
     match progress {
         Some(out) => {
-            let size = u64::from(threads).saturating_mul(FIRST);
-            let mut meter = ProgressMeter::new(rt, plan.many(), size);
-            let explore_totals = try_rounds::<O, V, R, P>(
+            let size = u64::from(threads).saturating_mul(FIRST_ROUND_SEEDS);
+            let mut meter = ProgressMeter::new(rt, plan.seed_count(), size);
+            let seed_totals = try_rounds::<O, V, R, P>(
                 rt, alloc, plan, 0, threads, &mut meter, out,
             );
             meter.clear(out);
-            explore_totals
+            seed_totals
         }
-        None => try_part::<O, V, R>(rt, alloc, plan, threads),
+        None => try_round::<O, V, R>(rt, alloc, plan, threads),
     }
 }
 
@@ -269,35 +269,35 @@ fn try_rounds<
     meter: &mut ProgressMeter,
     out: &mut P,
 ) -> Result<ExploreTotals, Fault>
-    ensures ok { let many = seeds_in plan.now.first plan.now.last in IfOk result (λ explore_totals. from ≤ many
-        → AreTried (IsTriedIn O.sequential V.forms plan.now) (plan.now.first + from) (plan.now.first + many) explore_totals.illegal) }
+    ensures ok { let many = seeds_in plan.now.first plan.now.last in IfOk result (λ seed_totals. from ≤ many
+        → AreTried (IsTriedIn O.sequential V.forms plan.now) (plan.now.first + from) (plan.now.first + many) seed_totals.illegal) }
     ensures refused { IfErr result (IsNotTried plan.now.votes.now) }
 {
-    let many = plan.many();
+    let many = plan.seed_count();
     if from >= many {
         return Ok(ExploreTotals::new());
     }
-    let upto = round_end(from, meter.size(), many);
-    let round = plan.part(from, upto);
-    let mut explore_totals = try_part::<O, V, R>(rt, alloc, &round, threads)?;
-    if explore_totals.illegal.is_some() {
-        return Ok(explore_totals);
+    let upto = round_end(from, meter.next_round_items(), many);
+    let round = plan.sub_plan(from, upto);
+    let mut seed_totals = try_round::<O, V, R>(rt, alloc, &round, threads)?;
+    if seed_totals.illegal.is_some() {
+        return Ok(seed_totals);
     }
     meter.end_round(rt, out, upto);
     let others = try_rounds::<O, V, R, P>(rt, alloc, plan, upto, threads, meter, out)?;
-    explore_totals.add(&others);
-    Ok(explore_totals)
+    seed_totals.add(&others);
+    Ok(seed_totals)
 }
 
 /// Tries the seeds of a plan in a single round.
-fn try_part<O: Object<Alloc = Global> + Send, V: Vocabulary + Send, R: Threads + Sync>(
+fn try_round<O: Object<Alloc = Global> + Send, V: Vocabulary + Send, R: Threads + Sync>(
     rt: &R,
     alloc: Global,
     plan: &ExplorePlan<'_>,
     threads: u16,
 ) -> Result<ExploreTotals, Fault>
-    ensures ok { IfOk result (λ explore_totals.
-        AreTried (IsTriedIn O.sequential V.forms plan.now) plan.now.first (plan.now.first + seeds_in plan.now.first plan.now.last) explore_totals.illegal) }
+    ensures ok { IfOk result (λ seed_totals.
+        AreTried (IsTriedIn O.sequential V.forms plan.now) plan.now.first (plan.now.first + seeds_in plan.now.first plan.now.last) seed_totals.illegal) }
     ensures refused { IfErr result (IsNotTried plan.now.votes.now) }
 {
     let parts = try_shares::<O, V, R>(rt, alloc, plan, threads)?;
@@ -313,9 +313,9 @@ fn try_shares<O: Object<Alloc = Global> + Send, V: Vocabulary + Send, R: Threads
 ) -> Result<Vec<Result<ExploreTotals, Fault>>, AllocError>
     ensures len { IfOk result (λ parts. vec_len parts ≡ max shares 1) }
     ensures each { let many = seeds_in plan.now.first plan.now.last in
-        IfOk result (λ parts. (share : ℕ) (part : _) → share < max shares 1 → IfOk (slice_index_or parts.items share part) (λ explore_totals.
+        IfOk result (λ parts. (share : ℕ) (part : _) → share < max shares 1 → IfOk (slice_index_or parts.items share part) (λ seed_totals.
         AreTried (IsTriedIn O.sequential V.forms plan.now) (plan.now.first + share_begin many shares share)
-        (plan.now.first + share_begin many shares (share + 1)) explore_totals.illegal)) }
+        (plan.now.first + share_begin many shares (share + 1)) seed_totals.illegal)) }
     ensures refused { IfOk result (λ parts. (share : ℕ) (part : _) → share < max shares 1
         → IfErr (slice_index_or parts.items share part) (IsNotGenerated plan.now.votes.now)) }
 {
@@ -335,21 +335,21 @@ fn joined_totals<O: Object<Alloc = Global>, V: Vocabulary>(
 ) -> Result<ExploreTotals, Fault>
     requires len { vec_len parts ≡ max shares 1 }
     requires each { let many = seeds_in plan.now.first plan.now.last in
-        (share : ℕ) (part : _) → share < max shares 1 → IfOk (slice_index_or parts.items share part) (λ explore_totals.
+        (share : ℕ) (part : _) → share < max shares 1 → IfOk (slice_index_or parts.items share part) (λ seed_totals.
         AreTried (IsTriedIn O.sequential V.forms plan.now) (plan.now.first + share_begin many shares share)
-        (plan.now.first + share_begin many shares (share + 1)) explore_totals.illegal) }
+        (plan.now.first + share_begin many shares (share + 1)) seed_totals.illegal) }
     requires refused { (share : ℕ) (part : _) → share < max shares 1
         → IfErr (slice_index_or parts.items share part) (IsNotGenerated plan.now.votes.now) }
-    ensures ok { IfOk result (λ explore_totals.
-        AreTried (IsTriedIn O.sequential V.forms plan.now) plan.now.first (plan.now.first + seeds_in plan.now.first plan.now.last) explore_totals.illegal) }
+    ensures ok { IfOk result (λ seed_totals.
+        AreTried (IsTriedIn O.sequential V.forms plan.now) plan.now.first (plan.now.first + seeds_in plan.now.first plan.now.last) seed_totals.illegal) }
     ensures refused { IfErr result (IsNotGenerated plan.now.votes.now) }
 {
     // Only the contract uses these two.
     let (_, _) = (plan, shares);
     let mut all = ExploreTotals::new();
     for part in parts {
-        let explore_totals = part?;
-        all.add(&explore_totals);
+        let seed_totals = part?;
+        all.add(&seed_totals);
     }
     Ok(all)
 }
@@ -362,20 +362,20 @@ fn try_share<O: Object<Alloc = Global>, V: Vocabulary>(
     share: u64,
 ) -> Result<ExploreTotals, Fault>
     ensures ok { let many = seeds_in plan.now.first plan.now.last in
-        IfOk result (λ explore_totals. AreTried (IsTriedIn O.sequential V.forms plan.now) (plan.now.first + share_begin many shares share)
-        (plan.now.first + share_begin many shares (share + 1)) explore_totals.illegal) }
+        IfOk result (λ seed_totals. AreTried (IsTriedIn O.sequential V.forms plan.now) (plan.now.first + share_begin many shares share)
+        (plan.now.first + share_begin many shares (share + 1)) seed_totals.illegal) }
     ensures refused { IfErr result (IsNotGenerated plan.now.votes.now) }
 {
-    let many = plan.many();
-    let mut explore_totals = ExploreTotals::new();
+    let many = plan.seed_count();
+    let mut seed_totals = ExploreTotals::new();
     let begin = share_begin(many, shares, share);
     let end = share_begin(many, shares, share.saturating_add(1));
     for place in begin..end {
         let one = try_seed::<O, V>(alloc, plan.votes, plan.first + place, plan.lines)?;
-        explore_totals.add(&one);
-        if explore_totals.illegal.is_some() {
-            return Ok(explore_totals);
+        seed_totals.add(&one);
+        if seed_totals.illegal.is_some() {
+            return Ok(seed_totals);
         }
     }
-    Ok(explore_totals)
+    Ok(seed_totals)
 }

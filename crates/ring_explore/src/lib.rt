@@ -5,8 +5,8 @@
 
 mod explore_totals;
 mod exploring;
-mod one;
 mod plan;
+mod seed_run;
 
 pub use exploring::{explore, explore_of};
 pub use plan::ExplorePlan;

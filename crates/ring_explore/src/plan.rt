@@ -30,7 +30,7 @@ impl ExplorePlan<'_> {
     /// It saturates at 2^64 - 1, so of all 2^64 seeds the last is left out.
     ///
     /// Formats: The command line
-    pub fn many(&self) -> u64
+    pub fn seed_count(&self) -> u64
         ensures { result ≡ seeds_in self.now.first self.now.last }
     {
         if self.last < self.first {
@@ -41,8 +41,8 @@ impl ExplorePlan<'_> {
 
     /// Returns the plan for the seeds from index `from` up to, but not including, index `upto`, counted from 0.
     ///
-    /// `from` must be below `upto`, and `upto` at most [`many`](ExplorePlan::many).
-    pub(crate) fn part(&self, from: u64, upto: u64) -> ExplorePlan<'_>
+    /// `from` must be below `upto`, and `upto` at most [`seed_count`](ExplorePlan::seed_count).
+    pub(crate) fn sub_plan(&self, from: u64, upto: u64) -> ExplorePlan<'_>
         requires some { from < upto }
         requires within { upto ≤ seeds_in self.now.first self.now.last }
         ensures first { result.first ≡ self.now.first + from }

@@ -123,7 +123,7 @@ pub fn output_result(written: io::Result<()>) -> Result<(), Failure>
 ///
 /// Rules: Refusals 1
 /// Formats: The command line
-pub fn report<E: Write>(err: &mut E, failure: Failure) -> u8
+pub fn report_failure<E: Write>(err: &mut E, failure: Failure) -> u8
     ensures status { result ≡ 1 }
     ensures output { failure ≡ Failure.Output → err.new ≡ err.old }
 {
@@ -164,6 +164,6 @@ pub fn exit_status<O: Write + Drop, A: Allocator, E: Write>(
     match done {
         _ if has_failed => FAILED,
         Ok(()) => 0,
-        Err(failure) => report(err, failure),
+        Err(failure) => report_failure(err, failure),
     }
 }

@@ -7,14 +7,14 @@
 
 mod borrowed_writer;
 mod failure;
-mod meter;
-mod share;
+mod progress_meter;
 mod state_names;
 mod status;
+mod work_shares;
 
 pub use borrowed_writer::BorrowedWriter;
-pub use failure::{Failure, exit_status, output_result, report};
-pub use meter::ProgressMeter;
-pub use share::{round_end, share_begin};
+pub use failure::{Failure, exit_status, output_result, report_failure};
+pub use progress_meter::ProgressMeter;
 pub use state_names::state_name;
 pub use status::{BAD_COMMAND_LINE, FAILED, NOT_LEGAL};
+pub use work_shares::{round_end, share_begin};

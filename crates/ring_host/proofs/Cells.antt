@@ -2,7 +2,7 @@
 use Rattle.std.proofs.Common.{◌≡◌, ℕ, zero, suc, ◌<◌, ◌≤◌, ◌∷◌, [], List, ap, ◌∙◌, length, refl, arith, length-append}
 use Rattle.ring_book.specs.Lines.{Machine}
 use Rattle.ring_book.specs.Openings.{new_cells, new_cell}
-use Rattle.ring_book.specs.Seen.{CellView}
+use Rattle.ring_book.specs.BookViews.{CellView}
 
 pub length-new_cells : {S A : Type 0} (m : Machine S A) (n : ℕ) → length (new_cells m n) ≡ n
 length-new_cells m zero = refl

@@ -7,7 +7,7 @@ use Rattle.std.proofs.Math.Seq.{take-append_seam}
 use Rattle.ring_base.proofs.Rows.{pushed}
 use Rattle.ring_base.specs.declared.fault.Fault.{Fault}
 use Rattle.ring_wire.specs.Frames.{encoding_of}
-use Rattle.ring_book_lines.specs.Puts.{OutgoingFrame, IsPut, IsCopyOf}
+use Rattle.ring_book_lines.specs.AppendedFrames.{OutgoingFrame, IsPut, IsCopyOf}
 use Rattle.ring_host.specs.LockedSteps.{AreCopiesOf}
 use Rattle.ring_seat.specs.Outboxes.{frames_in, bytes_put, IsWhole, IsNotedOrDropped}
 use Rattle.ring_seat.specs.OutboxFrames.{FrameCopy, end_of, AreInOrder, frames_from}

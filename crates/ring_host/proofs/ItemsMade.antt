@@ -7,7 +7,7 @@ use Rattle.ring_seat.specs.Outboxes.{frames_in}
 use Rattle.ring_seat.specs.declared.outbox.Outbox.{Outbox}
 use Rattle.ring_seat.specs.declared.outbox_frames.OutboxFrame.{OutboxFrame}
 use Rattle.ring_host.specs.Items.{IsCopyOfFrame}
-use Rattle.ring_host.specs.declared.item.InboxFrame.{InboxFrame}
+use Rattle.ring_host.specs.declared.inbox_frame_and_task.InboxFrame.{InboxFrame}
 
 -- A frame keeps its place with its bytes.
 place_of : (start : ℕ) (text : List ℕ) (frames : List OutboxFrame) (i : ℕ) (copy : FrameCopy) (frame : OutboxFrame)
@@ -19,7 +19,7 @@ place_of start text (f ∷ fs) zero copy frame a b =
 place_of start text (f ∷ fs) (suc i) copy frame a b = place_of f.end text fs i copy frame a b
 
 module _ {A : Type 0} (outbox : Outbox A) (index : ℕ) (frame : OutboxFrame) (bytes : List ℕ) (item : InboxFrame A)
-    (there : slice_get outbox.frames index ≡ Some frame) (at : item.at ≡ record { line = outbox.line; place = frame.place })
+    (there : slice_get outbox.frames index ≡ Some frame) (at : item.book_place ≡ record { line = outbox.line; place = frame.place })
     (same : item.bytes.items ≡ bytes) where
   with_copy : (o : Option FrameCopy) → slice_get (frames_in outbox) index ≡ o → IsSomeAnd o (λ (copy : FrameCopy). bytes ≡ copy.bytes)
       → IsCopyOfFrame outbox index item

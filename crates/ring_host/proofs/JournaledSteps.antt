@@ -12,7 +12,7 @@ use Rattle.ring_book_lines.specs.Steps.{StepView, LineView}
 use Rattle.ring_book.specs.Books.{HasEntered, IsStrange}
 use Rattle.ring_book.specs.Cells.{HasJournaled}
 use Rattle.ring_book.specs.Entered.{IsEnterResult}
-use Rattle.ring_book.specs.Seen.{CellView, BookView}
+use Rattle.ring_book.specs.BookViews.{CellView, BookView}
 use Rattle.ring_host.specs.LockedSteps.{IsPast, IsEntered, IsCallRefused}
 
 -- Two equal lists end with the same element.

@@ -5,14 +5,14 @@ use Rattle.std.proofs.lemmas.Bool.{and_parts, eqb-true, leb-true}
 use Rattle.ring_base.specs.Group.{Group}
 use Rattle.ring_object.specs.Operations.{Sequential}
 use Rattle.ring_session.specs.declared.answer.Answer.{Answer}
-use Rattle.ring_book.specs.Lines.{answer_of_ticket, answer_in, IsRun, LineView}
+use Rattle.ring_book.specs.Lines.{answer_of_ticket, first_answer_in, IsRun, LineView}
 use Rattle.ring_host.specs.Answering.{IsAnswered, AreAnswered}
 use Rattle.ring_host.specs.Looking.{AnswerCacheView, cached_answer}
 use Rattle.ring_host.proofs.TicketsGiven.{is_answered}
 
 -- The answers of a run's book are answered.
 pub are_answered : {A O : Type 0} (object : Sequential O) (group : Group) (lines : List (LineView A)) (told : List (Option Answer)) (node first : ℕ)
-    (from : ℕ) (found : List Answer) → from ≡ first → IsRun object group lines → ((ticket : ℕ) → answer_of_ticket told ticket ≡ answer_in lines node ticket)
+    (from : ℕ) (found : List Answer) → from ≡ first → IsRun object group lines → ((ticket : ℕ) → answer_of_ticket told ticket ≡ first_answer_in lines node ticket)
     → ((i : ℕ) (a : Answer) → slice_get found i ≡ Some a → answer_of_ticket told (from + i) ≡ Some a) → AreAnswered A object group node first found
 are_answered {A} object group lines told node first from found same run tells kept =
     subst (λ (n : ℕ). AreAnswered A object group node n found) same

@@ -2,7 +2,7 @@
 use Rattle.std.proofs.Common.{◌≡◌, false, Result, Ok, Err, OnOk, IfErr, inl, inr, ap}
 use Rattle.ring_base.specs.declared.fault.Fault.{Fault}
 use Rattle.ring_book.specs.Books.{HasEntered}
-use Rattle.ring_book.specs.Seen.{CellView, BookView}
+use Rattle.ring_book.specs.BookViews.{CellView, BookView}
 use Rattle.ring_host.specs.LockedSteps.{IsUntold, IsFinished}
 
 module _ {S A : Type 0} where

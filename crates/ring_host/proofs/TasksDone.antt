@@ -4,26 +4,26 @@ use Rattle.std.proofs.Common.{IfSome, IfNone, IfOk, MatchResult, refl, sym, ap, 
 use Rattle.ring_base.proofs.ListPlaces.{get-last, push-length}
 use Rattle.ring_base.specs.Group.{Group}
 use Rattle.ring_base.specs.declared.fault.Fault.{Fault}
-use Rattle.ring_base.specs.declared.kind.Kind.{Kind}
+use Rattle.ring_base.specs.declared.timeout_kind.Kind.{Kind}
 use Rattle.ring_object.specs.Operations.{Sequential}
 use Rattle.ring_wire.specs.declared.frame.Frame.{Frame as OneFrame}
 use Rattle.ring_node_spec.specs.Nodes.{Node, node_known_log}
 use Rattle.ring_book_lines.specs.Machines.{node_machine}
 use Rattle.ring_book.specs.Cells.{HasJournaled}
 use Rattle.ring_book.specs.Lines.{IsRun, LineView, StepView, Received, steps_of}
-use Rattle.ring_book.specs.Seen.{CellView}
+use Rattle.ring_book.specs.BookViews.{CellView}
 use Rattle.ring_seat.specs.Clocks.{clock_counted_down, due_timeout, clock_after_item, timeout_restarted}
-use Rattle.ring_seat.specs.declared.clock.Clock.{Clock}
+use Rattle.ring_seat.specs.declared.turn_clock.TurnClock.{TurnClock}
 use Rattle.ring_host.proofs.JournaledSteps.{last_same}
 use Rattle.ring_host.specs.LockedSteps.{HasSent, IsEndOfRun}
 use Rattle.ring_host.specs.Steps.{IsTurnActivity, IsStepReport, node_after_lines, with_step}
 use Rattle.ring_host.specs.Tasks.{IsFrame, task_kind_of, timeout_of, input_of, ref_of}
 use Rattle.ring_host.specs.Turns.{IsCounted, IsTurned, length_of}
-use Rattle.ring_host.specs.declared.item.TaskKind.{TaskKind}
-use Rattle.ring_host.specs.declared.item.TaskKind.TheVariants.{Token}
-use Rattle.ring_host.specs.declared.item.Task.{Task}
-use Rattle.ring_host.specs.declared.item.Task.TheVariants.{Timeout, Received as CameTask}
-use Rattle.ring_host.specs.declared.step.StepReport.{StepReport}
+use Rattle.ring_host.specs.declared.inbox_frame_and_task.TaskKind.{TaskKind}
+use Rattle.ring_host.specs.declared.inbox_frame_and_task.TaskKind.TheVariants.{Token}
+use Rattle.ring_host.specs.declared.inbox_frame_and_task.Task.{Task}
+use Rattle.ring_host.specs.declared.inbox_frame_and_task.Task.TheVariants.{Timeout, Received as CameTask}
+use Rattle.ring_host.specs.declared.gated_turn.StepReport.{StepReport}
 
 -- The last of lines with one added sent the frames of its step.
 frames_of_last : {A : Type 0} (before after : List (LineView A)) (step : StepView A) (sent : ℕ) → after ≡ with_step before step → HasSent after sent
@@ -109,7 +109,7 @@ module _ {O A : Type 0} (object : Sequential O) (group : Group) where
   }
 
 -- The clock of a turn that did the due timeout, a frame or nothing is counted as its length says.
-pub is_counted_so : (A : Type 0) {O : Type 0} (object : Sequential O) (group : Group) (done : Option StepReport) (old new : Clock)
+pub is_counted_so : (A : Type 0) {O : Type 0} (object : Sequential O) (group : Group) (done : Option StepReport) (old new : TurnClock)
     → IsTurned A object group done old new → IsCounted (length_of done) old new
 is_counted_so A object group None old new t = (t.0, t.1 ∙ ap (λ (due : Option Kind). timeout_restarted due (clock_counted_down old)) t.0)
 is_counted_so A object group (Some done) old new t =

@@ -4,9 +4,9 @@ use Rattle.std.proofs.Common.{IfSome}
 use Rattle.ring_base.specs.Group.{Group}
 use Rattle.ring_object.specs.Operations.{Sequential}
 use Rattle.ring_session.specs.declared.answer.Answer.{Answer}
-use Rattle.ring_session.specs.declared.answered.TicketAnswer.{TicketAnswer}
+use Rattle.ring_session.specs.declared.ticket_answer.TicketAnswer.{TicketAnswer}
 use Rattle.ring_book_lines.proofs.AnswersByTicket.{length-with_answers}
-use Rattle.ring_book.specs.Lines.{LineInput, Submitted, Received, answers_after_step, answers_after_steps, answers_of_node, answer_of_ticket, answer_in, IsRun, steps_of}
+use Rattle.ring_book.specs.Lines.{LineInput, Submitted, Received, answers_after_step, answers_after_steps, answers_of_node, answer_of_ticket, first_answer_in, IsRun, steps_of}
 use Rattle.ring_book.specs.Lines.{call_in, calls_of, StepView, LineView}
 use Rattle.ring_host.specs.Answering.{IsAnswered}
 
@@ -29,7 +29,7 @@ is_within [] (suc ticket) answer h = cc
 is_within (x ∷ xs) zero answer h = omega arith
 is_within (x ∷ xs) (suc ticket) answer h = let r = is_within xs ticket answer h in omega arith
 
-pub is_issued : {A : Type 0} (lines : List (LineView A)) (node ticket : ℕ) (answer : Answer) → answer_in lines node ticket ≡ Some answer
+pub is_issued : {A : Type 0} (lines : List (LineView A)) (node ticket : ℕ) (answer : Answer) → first_answer_in lines node ticket ≡ Some answer
     → ticket < length (calls_of (steps_of node lines))
 is_issued lines node ticket answer h =
     let a = is_within (answers_of_node node lines) ticket answer h in
@@ -38,7 +38,7 @@ is_issued lines node ticket answer h =
 
 -- The answer of a run's book to a ticket is answered in that run.
 pub is_answered : {A O : Type 0} (object : Sequential O) (group : Group) (lines : List (LineView A)) (node ticket : ℕ) (found : Option Answer)
-    → IsRun object group lines → found ≡ answer_in lines node ticket → IfSome found (IsAnswered A object group node ticket)
+    → IsRun object group lines → found ≡ first_answer_in lines node ticket → IfSome found (IsAnswered A object group node ticket)
 is_answered object group lines node ticket None run h = _
 is_answered object group lines node ticket (Some answer) run h =
     record { lines = lines; run = run; issued = is_issued lines node ticket answer (sym h); answered = sym h }

@@ -10,12 +10,12 @@ use Rattle.ring_book_lines.specs.declared.input.LineInput.{LineInput}
 use Rattle.ring_book_lines.specs.Lines.{steps_of}
 use Rattle.ring_book_lines.specs.Machines.{Machine}
 use Rattle.ring_book_lines.specs.Runs.{IsStep}
-use Rattle.ring_book_lines.specs.Puts.{OutgoingFrame, IsCopyOf}
+use Rattle.ring_book_lines.specs.AppendedFrames.{OutgoingFrame, IsCopyOf}
 use Rattle.ring_book_lines.specs.Steps.{StepView, LineView}
 use Rattle.ring_book.specs.Books.{max_places, HasEntered, IsStrange}
 use Rattle.ring_book.specs.Cells.{SubmitRefused}
 use Rattle.ring_book.specs.Lines.{IsRun}
-use Rattle.ring_book.specs.Seen.{CellView, BookView}
+use Rattle.ring_book.specs.BookViews.{CellView, BookView}
 use Rattle.ring_host.specs.Steps.{node_after_lines}
 use Rattle.ring_seat.specs.OutboxFrames.{FrameCopy}
 

@@ -2,7 +2,7 @@
 -- Rules: The book and the threads 21 and 29
 use Rattle.std.specs.Prelude.{ℕ, ◌≡◌, ◌≤◌, List, [], ◌∷◌, ◌++◌, Option, length}
 use Rattle.ring_base.specs.Group.{Group}
-use Rattle.ring_base.specs.declared.kind.Kind.{Kind}
+use Rattle.ring_base.specs.declared.timeout_kind.Kind.{Kind}
 use Rattle.ring_base.specs.declared.state.State.TheVariants.{Operational}
 use Rattle.ring_object.specs.Operations.{Sequential}
 use Rattle.ring_wire.specs.declared.frame.Frame.{Frame as OneFrame}
@@ -12,10 +12,10 @@ use Rattle.ring_book.specs.Lines.{IsRun, events_of, LineView, StepView, Received
 use Rattle.ring_host.specs.Tasks.{task_kind_of, input_of, ref_of}
 use Rattle.ring_host.specs.declared.gate.TurnActivity.{TurnActivity}
 use Rattle.ring_host.specs.declared.gate.TurnActivity.TheVariants as stirs
-use Rattle.ring_host.specs.declared.item.TaskKind.{TaskKind}
-use Rattle.ring_host.specs.declared.item.TaskKind.TheVariants as task_kind
-use Rattle.ring_host.specs.declared.item.Task.{Task}
-use Rattle.ring_host.specs.declared.step.StepReport.{StepReport}
+use Rattle.ring_host.specs.declared.inbox_frame_and_task.TaskKind.{TaskKind}
+use Rattle.ring_host.specs.declared.inbox_frame_and_task.TaskKind.TheVariants as task_kind
+use Rattle.ring_host.specs.declared.inbox_frame_and_task.Task.{Task}
+use Rattle.ring_host.specs.declared.gated_turn.StepReport.{StepReport}
 
 -- A step that sent `sent` frames leaves this node quiet: at most one frame, the ring installed, and all of the log
 -- committed.

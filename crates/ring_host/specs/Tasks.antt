@@ -9,11 +9,11 @@ use Rattle.ring_node_spec.specs.declared.input.Input.TheVariants.{Frame as Comes
 use Rattle.ring_book_lines.specs.declared.frame_ref.FrameRef.{FrameRef}
 use Rattle.ring_book_lines.specs.Lines.{HasBytesAt}
 use Rattle.ring_book_lines.specs.Steps.{LineView}
-use Rattle.ring_base.specs.declared.kind.Kind.{Kind}
-use Rattle.ring_host.specs.declared.item.TaskKind.{TaskKind}
-use Rattle.ring_host.specs.declared.item.TaskKind.TheVariants as task_kind
-use Rattle.ring_host.specs.declared.item.Task.{Task}
-use Rattle.ring_host.specs.declared.item.Task.TheVariants.{Timeout, Received}
+use Rattle.ring_base.specs.declared.timeout_kind.Kind.{Kind}
+use Rattle.ring_host.specs.declared.inbox_frame_and_task.TaskKind.{TaskKind}
+use Rattle.ring_host.specs.declared.inbox_frame_and_task.TaskKind.TheVariants as task_kind
+use Rattle.ring_host.specs.declared.inbox_frame_and_task.Task.{Task}
+use Rattle.ring_host.specs.declared.inbox_frame_and_task.Task.TheVariants.{Timeout, Received}
 
 -- A frame within the limits of its format was read, and this text is its encoding.
 abbrev pub IsRead : {A : Type 0} → Option (OneFrame A) → List ℕ → Type 0

@@ -7,7 +7,7 @@ use std::time::Duration;
 /// The factor of the counter's high half.
 ///
 /// A thread waits on the low half.
-const HALF: u64 = 1 << 32;
+const WAIT_WORD_RANGE: u64 = 1 << 32;
 
 /// A counter of notifications on which threads wait.
 ///
@@ -71,6 +71,7 @@ impl EventCount {
 
     /// Waits as `wait` does, for a thread that is already counted as a waiter.
     pub(crate) fn park<W: Wait>(&self, rt: &W, count: u64, most: Duration) {
-        self.count.park_timeout(rt, (count % HALF) as u32, most);
+        self.count
+            .park_timeout(rt, (count % WAIT_WORD_RANGE) as u32, most);
     }
 }

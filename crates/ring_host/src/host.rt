@@ -11,19 +11,19 @@ ghost use Rattle.ring_seat.specs.Clocks.{clock_after_turn};
 ghost use Rattle.ring_seat.specs.Seats.{IsAt, IsOwn};
 ghost use Rattle.ring_host.specs.Answering.{IsAnswered};
 ghost use Rattle.ring_host.specs.RefusingHeap.{IsTurnFault, IsSubmitFault};
-ghost use Rattle.ring_host.specs.declared.item.Task.TheVariants.{Timeout};
+ghost use Rattle.ring_host.specs.declared.inbox_frame_and_task.Task.TheVariants.{Timeout};
 ghost use Rattle.ring_host.specs.Tasks.{TaskFits, IsFrame};
 ghost use Rattle.ring_host.specs.Turns.{published_by, IsCounted, IsReported};
 
-use crate::answers::AnswerCache;
+use crate::answer_cache::AnswerCache;
 use crate::event_count::EventCount;
 use crate::gate::YieldingGate;
+use crate::gated_turn::turn_of;
 use crate::inbox::Inbox;
-use crate::item::Task;
+use crate::inbox_frame_and_task::Task;
 use crate::locked_step::stop_cell;
 use crate::locked_submit::submit_call;
-use crate::locking::take;
-use crate::step::turn_of;
+use crate::locking::lock_after_spinning;
 use crate::turn::Turn;
 use ring_base::{Fault, Kind, MAX_PROCESSORS, Proc};
 use ring_book::{Book, BookName, Cell};
@@ -102,7 +102,7 @@ impl<C, B, A: Allocator + Copy + Drop> HostOf<C, B, A> {
         requires { F.IsAlwaysCallable f }
         ensures { (b : _) × FnOnceReturnsAt F.FnOnce f b result }
     {
-        let book = take(rt, &self.book);
+        let book = lock_after_spinning(rt, &self.book);
         f(&book)
     }
 
@@ -168,7 +168,7 @@ impl<C, B, A: Allocator + Copy + Drop> HostOf<C, B, A> {
     /// Errors: `Memory` or `Stranger` if the item can't be read; the item is then spent.
     ///
     /// Rules: The book and the threads 21 and 22
-    pub(crate) fn task<W: Wait>(
+    pub(crate) fn take_task<W: Wait>(
         &self,
         rt: &W,
         node: Proc,
@@ -185,7 +185,7 @@ impl<C, B, A: Allocator + Copy + Drop> HostOf<C, B, A> {
             return Ok(Some(Task::Timeout(kind)));
         }
         match self.inboxes[node.number() as usize - 1].pop(rt) {
-            Some(item) => Ok(Some(Task::read(self.alloc, item, place)?)),
+            Some(item) => Ok(Some(Task::decode_task(self.alloc, item, place)?)),
             None => Ok(None),
         }
     }
@@ -267,8 +267,8 @@ impl<O: Object, K: BookName<O::Alloc>> HostOf<Cell<O, K>, Book<O, K>, O::Alloc> 
         requires { node ≤ self.now.words }
         ensures refused { IfErr result IsTurnFault }
     {
-        let mut cell = take(rt, &self.cells[node.number() as usize - 1]);
-        let place = take(rt, &self.book).reserve()?;
+        let mut cell = lock_after_spinning(rt, &self.cells[node.number() as usize - 1]);
+        let place = lock_after_spinning(rt, &self.book).reserve()?;
         let stopped = stop_cell(&mut cell);
         let mut none = Outbox::new(self.alloc);
         self.lock_and_finish_step(rt, place, &mut cell, stopped, &mut none)?;
@@ -286,7 +286,7 @@ impl<O: Object, K: BookName<O::Alloc>> HostOf<Cell<O, K>, Book<O, K>, O::Alloc> 
     pub fn poll<W: Wait>(&self, rt: &W, ticket: &HostTicket) -> Option<Answer>
         ensures { IfSome result (IsAnswered O.Alloc O.sequential K.name.group ticket.now.node ticket.now.ticket) }
     {
-        let book = take(rt, &self.book);
+        let book = lock_after_spinning(rt, &self.book);
         // A law: no effect at run time. It tells the proof that the book's lines are a run of the group.
         book.run_law();
         book.answer(ticket.node, ticket.ticket)
@@ -300,7 +300,7 @@ impl<O: Object, K: BookName<O::Alloc>> HostOf<Cell<O, K>, Book<O, K>, O::Alloc> 
     pub fn empty_answers(&self, node: Proc) -> AnswerCache<O, K>
         ensures { result ≡ record { node = node; first = 0; found = [] } }
     {
-        AnswerCache::none(self.alloc, node)
+        AnswerCache::empty_cache(self.alloc, node)
     }
 
     /// Looks up many answers under one lock.
@@ -314,8 +314,8 @@ impl<O: Object, K: BookName<O::Alloc>> HostOf<Cell<O, K>, Book<O, K>, O::Alloc> 
         ensures first { answers.new.first ≡ ticket.now.ticket }
     {
         answers.make_room();
-        let book = take(rt, &self.book);
-        answers.look(&book, ticket);
+        let book = lock_after_spinning(rt, &self.book);
+        answers.fill_from_book(&book, ticket);
     }
 
     /// Submits a call under the node's lock and the book's.
@@ -333,8 +333,8 @@ impl<O: Object, K: BookName<O::Alloc>> HostOf<Cell<O, K>, Book<O, K>, O::Alloc> 
         ensures node { IfOk result (λ t. t.node ≡ node) }
         ensures refused { IfErr result IsSubmitFault }
     {
-        let mut cell = take(rt, &self.cells[node.number() as usize - 1]);
-        let mut book = take(rt, &self.book);
+        let mut cell = lock_after_spinning(rt, &self.cells[node.number() as usize - 1]);
+        let mut book = lock_after_spinning(rt, &self.book);
         let ticket = submit_call(&mut cell, &mut book, call)?;
         Ok(HostTicket { node, ticket })
     }

@@ -8,7 +8,7 @@ ghost use Rattle.ring_base.specs.declared.fault.Fault.TheVariants.{Memory};
 ghost use Rattle.ring_host.specs.Items.{IsCopyOfFrame};
 
 use crate::event_count::EventCount;
-use crate::item::InboxFrame;
+use crate::inbox_frame_and_task::InboxFrame;
 use crate::pacing::{EmptyTurn, Pace, slices_of, yields_of};
 use crossbeam_queue::ArrayQueue;
 use ring_base::{Fault, Proc, State};
@@ -77,7 +77,7 @@ impl<A: Allocator + Copy + Drop> Inbox<A> {
     /// `index`.
     ///
     /// Rules: The book and the threads 23
-    pub(crate) fn push<W: Wait>(
+    pub(crate) fn push_and_wake<W: Wait>(
         &self,
         rt: &W,
         item: InboxFrame<A>,

@@ -5,26 +5,26 @@
 //! Rules: The book and the threads 19 to 36; Limits 3
 #![tactic(auto)]
 
-mod answers;
+mod answer_cache;
 mod construction;
 mod event_count;
 mod gate;
+mod gated_turn;
 mod host;
 mod inbox;
-mod item;
+mod inbox_frame_and_task;
 mod locked_step;
 mod locked_submit;
 mod locking;
+mod node_threads;
 mod paced_gate;
 mod pacing;
-mod run;
-mod step;
 mod turn;
 
-pub use answers::AnswerCache;
+pub use answer_cache::AnswerCache;
 pub use gate::{Gate, GatePlace, OpenGate, TurnActivity};
 pub use host::{Host, HostOf, HostTicket};
-pub use item::InboxFrame;
+pub use inbox_frame_and_task::InboxFrame;
 pub use paced_gate::PacedGate;
 pub use ring_book::{Book, BookName, Cause, Opening, linear_law};
 pub use ring_seat::{Gauge, Seat};

@@ -14,17 +14,17 @@ ghost use Rattle.ring_host.specs.LockedSteps.{AreCopiesOf, IsFull, IsReleased, H
 ghost use Rattle.ring_host.specs.RefusingHeap.{IsTurnFault};
 ghost use Rattle.ring_host.specs.Tasks.{TaskFits, IsTaskInBook, input_of, ref_of};
 
-use crate::item::Task;
+use crate::inbox_frame_and_task::Task;
 use ring_base::{Fault, Kind, Proc};
 use ring_book::{Book, BookName, Cell, FrameRef, Input, Place};
-use ring_book_lines::Frames;
+use ring_book_lines::LineFrames;
 use ring_object::Object;
 use ring_seat::Outbox;
 use ring_wire::Frame;
 use std::alloc::Allocator;
 
 /// The reference passed with an input that isn't a frame; the cell ignores it.
-const NOWHERE: FrameRef = FrameRef { line: 0, place: 0 };
+const NO_REFERENCE: FrameRef = FrameRef { line: 0, place: 0 };
 
 /// Reserves a place for the task's line and returns it.
 ///
@@ -109,7 +109,7 @@ fn time_out<O: Object, K: BookName<O::Alloc>>(
         (StepRefused m cell.old cell.new (TimedOut kind) (record { line = 0; place = 0 })) }
     ensures refused { IfErr result IsTurnFault }
 {
-    cell.step(Input::Timeout(kind), NOWHERE)
+    cell.step(Input::Timeout(kind), NO_REFERENCE)
 }
 
 /// Stops the cell's node, for good.
@@ -128,7 +128,7 @@ pub(crate) fn stop_cell<O: Object, K: BookName<O::Alloc>>(
         (StepRefused m cell.old cell.new Stop (record { line = 0; place = 0 })) }
     ensures refused { IfErr result IsTurnFault }
 {
-    cell.step(Input::Stop, NOWHERE)
+    cell.step(Input::Stop, NO_REFERENCE)
 }
 
 /// Enters the cell's line and copies its frames into the outbox, or releases the place.
@@ -155,8 +155,8 @@ pub(crate) fn finish_step<O: Object, K: BookName<O::Alloc>>(
     ensures refused { IfErr result IsTurnFault }
 {
     match stepped {
-        Ok(()) => enter_in(book, place, cell, outbox),
-        Err(Fault::Memory) => match enter_in(book, place, cell, outbox) {
+        Ok(()) => enter_line_or_release(book, place, cell, outbox),
+        Err(Fault::Memory) => match enter_line_or_release(book, place, cell, outbox) {
             Ok(_) => Err(Fault::Memory),
             Err(fault) => Err(fault),
         },
@@ -172,7 +172,7 @@ pub(crate) fn finish_step<O: Object, K: BookName<O::Alloc>>(
 /// Returns the number of frames that the line sent.
 ///
 /// Errors: `Stranger` if no line can be entered; the place is then released.
-fn enter_in<O: Object, K: BookName<O::Alloc>>(
+fn enter_line_or_release<O: Object, K: BookName<O::Alloc>>(
     book: &mut Book<O, K>,
     place: Place,
     cell: &mut Cell<O, K>,
@@ -193,7 +193,7 @@ fn enter_in<O: Object, K: BookName<O::Alloc>>(
             // Laws: no effect at run time. They tell the proof that the lines are a run of the group, and that the
             // node's state is the one after that run.
             book.run_law();
-            book.node_law(cell);
+            book.cell_follows_book_law(cell);
             Ok(sent)
         }
         Err(fault) => {
@@ -206,7 +206,11 @@ fn enter_in<O: Object, K: BookName<O::Alloc>>(
 /// Copies the frames of line `number` into the outbox.
 ///
 /// If an allocation for a frame fails, it is left out, and its copies are counted as dropped.
-fn fill_outbox<A: Allocator + Copy + Drop>(number: u32, frames: &Frames<A>, outbox: &mut Outbox<A>)
+fn fill_outbox<A: Allocator + Copy + Drop>(
+    number: u32,
+    frames: &LineFrames<A>,
+    outbox: &mut Outbox<A>,
+)
     ensures line { outbox.new.line ≡ number }
     ensures copies { AreCopiesOf frames.now (frames_in outbox.new) }
 {
@@ -216,7 +220,7 @@ fn fill_outbox<A: Allocator + Copy + Drop>(number: u32, frames: &Frames<A>, outb
         let Some(to) = frames.receivers(place) else {
             continue;
         };
-        let is_put = frames.put(place, &mut outbox.text).is_ok();
+        let is_put = frames.append_encoding(place, &mut outbox.text).is_ok();
         outbox.add_frame(place, to, is_put);
     }
 }

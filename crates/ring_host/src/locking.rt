@@ -14,7 +14,7 @@ const SPINS_PER_ATTEMPT: u32 = 10;
 /// Sleeping for it and waking takes longer than the work done under it. While one thread sleeps, [`Mutex::lock`] makes
 /// all later ones sleep too. So the thread tries for some time first, with pauses. A thread that yielded instead would
 /// run again late on a loaded machine.
-pub(crate) fn take<'a, T, W: Wait>(rt: &W, lock: &'a Mutex<T>) -> MutexGuard<'a, T> {
+pub(crate) fn lock_after_spinning<'a, T, W: Wait>(rt: &W, lock: &'a Mutex<T>) -> MutexGuard<'a, T> {
     for _ in 0..LOCK_ATTEMPTS {
         if let Some(guard) = lock.try_lock() {
             return guard;

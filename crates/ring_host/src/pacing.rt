@@ -97,9 +97,9 @@ impl Pace {
             return EmptyTurn::OfNap;
         }
         if !self.is_gathering.load(Ordering::SeqCst) {
-            return EmptyTurn::InRow(count_one(&self.in_row));
+            return EmptyTurn::InRow(increment(&self.in_row));
         }
-        let in_gather = count_one(&self.in_gather);
+        let in_gather = increment(&self.in_gather);
         if in_gather <= EMPTY_TURNS_TO_NAP {
             return EmptyTurn::Early;
         }
@@ -118,7 +118,7 @@ impl Pace {
 }
 
 /// Adds 1 to a counter that only the node's own thread changes, and returns the sum.
-fn count_one(counter: &AtomicU64) -> u64 {
+fn increment(counter: &AtomicU64) -> u64 {
     let sum = counter.load(Ordering::SeqCst).saturating_add(1);
     counter.store(sum, Ordering::SeqCst);
     sum

@@ -6,7 +6,7 @@ use Rattle.ring_object.specs.Operations.{Sequential}
 use Rattle.ring_node_spec.specs.Histories.{IsLinearization}
 use Rattle.ring_node_spec.specs.Worlds.{order, run, world_opening}
 use Rattle.ring_host_port.specs.Books.{IsRun, LineView, events_of, history_of}
-use Rattle.ring_host_port.specs.declared.calls.ClientCalls.{ClientCalls}
+use Rattle.ring_host_port.specs.declared.client_calls.ClientCalls.{ClientCalls}
 
 -- These lines are a run of the group, order and history are those of the run, and the order is a linearization of the history.
 pub record AreOfLines {A O : Type 0} (object : Sequential O) (group : Group) (lines : List (LineView A)) (calls : ClientCalls A) : Type 0 where

@@ -7,7 +7,7 @@ ghost use Rattle.ring_base.specs.declared.fault.Fault.TheVariants.{Memory};
 ghost use Rattle.ring_client.specs.Asking.{new_asked};
 ghost use Rattle.ring_host_port.specs.Clients.{AreSeats, AreForAll, AreNotTaken, IsNew, node_after};
 
-use crate::port::{HostPort, POLLS};
+use crate::port::{HostPort, MAX_POLLS_AT_NODE};
 use ring_base::Fault;
 use ring_client::Client;
 use ring_host::{BookName, Host, Seat};
@@ -56,7 +56,7 @@ pub fn take_seats<O: Object, K: BookName<O::Alloc>>(
 /// Errors: `Memory` if an allocation fails.
 ///
 /// Rules: Clients 1; The book and the threads 28
-pub fn client_of<'a, O: Object, K: BookName<O::Alloc>, W: Wait>(
+pub fn client_with_ports<'a, O: Object, K: BookName<O::Alloc>, W: Wait>(
     rt: &'a W,
     alloc: O::Alloc,
     host: &'a Host<O, K>,
@@ -70,14 +70,14 @@ pub fn client_of<'a, O: Object, K: BookName<O::Alloc>, W: Wait>(
 {
     let mut seats = seats;
     let mut ports = Vec::new(alloc);
-    add_ports(rt, host, &mut seats, first, &mut ports)?;
-    Ok(Client::new(alloc, number, ports, POLLS))
+    append_port_to_each_node(rt, host, &mut seats, first, &mut ports)?;
+    Ok(Client::new(alloc, number, ports, MAX_POLLS_AT_NODE))
 }
 
 /// Appends a port to each node, in order from node `first` on, each with one of the seats, to the empty list `ports`.
 ///
 /// Errors: `Memory` if an allocation fails.
-fn add_ports<'a, O: Object, K: BookName<O::Alloc>, W: Wait>(
+fn append_port_to_each_node<'a, O: Object, K: BookName<O::Alloc>, W: Wait>(
     rt: &'a W,
     host: &'a Host<O, K>,
     seats: &mut Vec<Seat<O::Alloc>, O::Alloc>,
@@ -93,14 +93,14 @@ fn add_ports<'a, O: Object, K: BookName<O::Alloc>, W: Wait>(
 {
     let nodes = seats.len() as u8;
     for passed in 0..nodes {
-        let port = HostPort::to(rt, host, seats, node_after(nodes, first, passed))?;
+        let port = HostPort::to_node(rt, host, seats, node_tried_after(nodes, first, passed))?;
         ports.push(port)?;
     }
     Ok(())
 }
 
 /// Returns the node that a client tries after `passed` others, if its first node is `first`.
-fn node_after(nodes: u8, first: u8, passed: u8) -> u8
+fn node_tried_after(nodes: u8, first: u8, passed: u8) -> u8
     requires { 1 ≤ nodes }
     ensures { result ≡ node_after nodes first passed }
 {

@@ -7,11 +7,11 @@ ghost use Rattle.ring_base.specs.declared.fault.Fault.TheVariants.{NotMember};
 ghost use Rattle.ring_client.specs.Asking.{new_asked, asked_after_submit, asked_after_refusal, asked_after_poll, IsClientVisible, IsSubmittable};
 ghost use Rattle.ring_seat.specs.Seats.{IsAt};
 ghost use Rattle.ring_host.specs.Answering.{IsAnswered};
-ghost use Rattle.ring_host_port.specs.VisibleAnswer.{visible_answer};
+ghost use Rattle.ring_host_port.specs.VisibleAnswer.{if_visible_to_client};
 ghost use Rattle.ring_host_port.specs.Submitting.{IsNotSubmitted};
 
 use ring_base::{Fault, Proc};
-use ring_client::{Asked, Port, client_visible};
+use ring_client::{Asked, Port, if_client_visible};
 use ring_host::{AnswerCache, BookName, Host, HostTicket, Seat};
 use ring_object::Object;
 use ring_payload::{Call, MAX_OPERATION};
@@ -37,7 +37,7 @@ const SLEEP_MICROS: u64 = 50;
 /// The maximum number of polls that a client on a thread makes at one node for one call, before it tries the next node.
 ///
 /// Rules: Clients 4; The book and the threads 28
-pub const POLLS: u64 = 1_000_000;
+pub const MAX_POLLS_AT_NODE: u64 = 1_000_000;
 
 /// A port to a node of a host, with a seat of that host.
 ///
@@ -108,7 +108,7 @@ impl<'a, O: Object, K: BookName<O::Alloc>, W: Wait> HostPort<'a, O, K, W> {
     /// Errors: `NotMember` if the host has no such node, or no seat is left. The seats are then unchanged.
     ///
     /// Rules: Clients 2; Refusals 1
-    pub fn to(
+    pub fn to_node(
         rt: &'a W,
         host: &'a Host<O, K>,
         seats: &mut Vec<Seat<O::Alloc>, O::Alloc>,
@@ -161,7 +161,7 @@ impl<'a, O: Object, K: BookName<O::Alloc>, W: Wait> HostPort<'a, O, K, W> {
     ///
     /// After a look without success it looks again only once the port's node has committed more, and at each 64th poll
     /// of the call.
-    fn find(&mut self, ticket: &HostTicket) -> Option<Answer>
+    fn find_answer(&mut self, ticket: &HostTicket) -> Option<Answer>
         ensures answered { IfSome result (IsAnswered O.Alloc O.sequential K.name.group ticket.now.node ticket.now.ticket) }
         ensures node { self.new.node ≡ self.old.node }
         ensures asked { self.new.asked ≡ self.old.asked }
@@ -183,7 +183,7 @@ impl<'a, O: Object, K: BookName<O::Alloc>, W: Wait> HostPort<'a, O, K, W> {
     }
 
     /// Yields to the nodes' threads, and also sleeps at every tenth poll once a call has waited for long.
-    fn wait(&self) {
+    fn yield_or_sleep(&self) {
         thread::yield_now();
         let polls = self.asked.polls;
         if polls >= POLLS_TO_SLEEP && polls % POLLS_PER_SLEEP == 0 {
@@ -192,13 +192,13 @@ impl<'a, O: Object, K: BookName<O::Alloc>, W: Wait> HostPort<'a, O, K, W> {
     }
 
     /// Records a poll for which the host returned `found`, and returns that answer if a client may see it.
-    fn note(&mut self, found: Option<Answer>) -> Option<Answer>
-        ensures answer { result ≡ visible_answer found }
+    fn note_poll_result(&mut self, found: Option<Answer>) -> Option<Answer>
+        ensures answer { result ≡ if_visible_to_client found }
         ensures told { IfSome result IsClientVisible }
         ensures node { self.new.node ≡ self.old.node }
         ensures asked { self.new.asked ≡ asked_after_poll result self.old.asked }
     {
-        let answer = visible_answer(found);
+        let answer = if_visible_to_client(found);
         self.asked.note_poll(answer);
         self.asked.answer
     }
@@ -209,7 +209,7 @@ impl<'a, O: Object, K: BookName<O::Alloc>, W: Wait> Port for HostPort<'a, O, K, 
 
     type Ticket = HostTicket;
 
-    ghost asked_of = { λ port. port.asked };
+    ghost trace_options_of = { λ port. port.asked };
 
     /// Submits a copy of the call at the port's node and records it in `asked`.
     ///
@@ -246,10 +246,10 @@ impl<'a, O: Object, K: BookName<O::Alloc>, W: Wait> Port for HostPort<'a, O, K, 
         ensures answered { IfSome result (IsAnswered O.Alloc O.sequential K.name.group ticket.now.node ticket.now.ticket) }
         ensures node { self.new.node ≡ self.old.node }
     {
-        let found = self.find(ticket);
-        let answer = self.note(found);
+        let found = self.find_answer(ticket);
+        let answer = self.note_poll_result(found);
         if answer.is_none() {
-            self.wait();
+            self.yield_or_sleep();
         }
         answer
     }
@@ -263,12 +263,12 @@ impl<'a, O: Object, K: BookName<O::Alloc>, W: Wait> Port for HostPort<'a, O, K, 
 }
 
 /// Returns the answer that was found, if there is one and a client may see it.
-fn visible_answer(found: Option<Answer>) -> Option<Answer>
-    ensures value { result ≡ visible_answer found }
+fn if_visible_to_client(found: Option<Answer>) -> Option<Answer>
+    ensures value { result ≡ if_visible_to_client found }
     ensures told { IfSome result IsClientVisible }
 {
     match found {
-        Some(answer) => client_visible(answer),
+        Some(answer) => if_client_visible(answer),
         None => None,
     }
 }

@@ -9,7 +9,7 @@ use crate::driven::{DrivenHost, done};
 use ring_base::{Fault, Fixed};
 use ring_host::{BookName, HostTicket, INBOX, Opening, Turn};
 use ring_object::Object;
-use ring_seat::Clock;
+use ring_seat::TurnClock;
 use ring_session::Answer;
 use ring_things::Counters;
 use std::alloc::Global;
@@ -36,7 +36,7 @@ fn row<O: Object, K: BookName<O::Alloc>, W: Wait>(
 fn both_rows<O: Object, K: BookName<O::Alloc>, W: Wait>(
     rt: &W,
     driven: &mut DrivenHost<O, K>,
-) -> Result<(Row, Row, Clock), Fault> {
+) -> Result<(Row, Row, TurnClock), Fault> {
     let ticket = driven.submit(rt, 1, 7, 1)?;
     let before = row(rt, driven, &ticket, 505)?;
     let after = row(rt, driven, &ticket, 1)?;
@@ -48,7 +48,7 @@ fn opened<O: Object, K: BookName<O::Alloc>, W: Wait>(
     rt: &W,
     alloc: O::Alloc,
     opening: Opening<O>,
-) -> Result<(Row, Row, Clock), Fault>
+) -> Result<(Row, Row, TurnClock), Fault>
     requires { opening ≡ K.name }
 {
     let mut driven = DrivenHost::<O, K>::new(alloc, opening, 1, INBOX)?;
@@ -58,7 +58,7 @@ fn opened<O: Object, K: BookName<O::Alloc>, W: Wait>(
 }
 
 /// Runs `opened` with counters.
-fn counted<W: Wait>(rt: &W, alloc: Global) -> Result<(Row, Row, Clock), Fault> {
+fn counted<W: Wait>(rt: &W, alloc: Global) -> Result<(Row, Row, TurnClock), Fault> {
     let opening = Opening::<Counters>::new(alloc, Fixed::new(1)?)?;
     opened::<Counters, Brand, W>(rt, alloc, opening)
 }
@@ -123,7 +123,7 @@ fn told(length: u64) -> Turn {
 fn a_call_is_answered_at_turn_506(rt: HostRuntime) {
     let before = (told(0), 0, (None, true));
     let after = (told(1), 1, (Some(done(5)), true));
-    let clock = Clock {
+    let clock = TurnClock {
         join: 494,
         retransmit: 1000,
         consensus: 8000,

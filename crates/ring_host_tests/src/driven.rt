@@ -8,7 +8,7 @@ use ring_base::{Fault, Kind};
 use ring_host::{BookName, Host, HostTicket, OpenGate, Opening, Seat, Turn};
 use ring_object::{Object, Reply};
 use ring_payload::Call;
-use ring_seat::Clock;
+use ring_seat::TurnClock;
 use ring_session::Answer;
 use ring_things::Counters;
 use std::alloc::Allocator;
@@ -71,7 +71,7 @@ impl<O: Object, K: BookName<O::Alloc>> DrivenHost<O, K> {
     }
 
     /// Returns the first node's clock.
-    pub fn clock(&self) -> Clock {
+    pub fn clock(&self) -> TurnClock {
         self.first.clock()
     }
 
@@ -306,7 +306,7 @@ pub fn pass<O: Object, K: BookName<O::Alloc>>(
 }
 
 /// Returns the number of turns until the timeout of this kind is due.
-fn left_of(clock: Clock, kind: Kind) -> u16 {
+fn left_of(clock: TurnClock, kind: Kind) -> u16 {
     match kind {
         Kind::Join => clock.join,
         Kind::Retransmit => clock.retransmit,

@@ -90,9 +90,9 @@ fn short_submit<O: Object, K: BookName<O::Alloc>, W: Wait>(
     heap: &RefusingHeap,
     driven: &mut DrivenHost<O, K>,
 ) -> Short {
-    let before = heap.requests();
+    let before = heap.request_count();
     let seen = submitted(rt, driven, 1);
-    let after = heap.requests();
+    let after = heap.request_count();
     let is_next_taken = is_taken(submitted(rt, driven, 2));
     (
         before,

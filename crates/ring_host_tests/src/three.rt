@@ -149,9 +149,9 @@ fn story<O: Object, K: BookName<O::Alloc>, W: Wait>(
 ) -> Result<Shown, Fault> {
     driven.form(rt, FORM);
     driven.submit(rt, 1, 7, 1)?;
-    let before = heap.requests();
+    let before = heap.request_count();
     let outcome = watched(rt, heap, driven);
-    let after = heap.requests();
+    let after = heap.request_count();
     let go_on = outcome.is_none() || goes_on(rt, driven)?;
     Ok(Shown {
         before,

@@ -34,7 +34,7 @@ impl FrameHead {
     /// Returns `None` if there are fewer than 8 bytes.
     ///
     /// Formats: Frames
-    pub(crate) fn of(bytes: &[u8]) -> Option<FrameHead> {
+    pub(crate) fn from_bytes(bytes: &[u8]) -> Option<FrameHead> {
         if bytes.len() < HEAD_BYTES {
             return None;
         }

@@ -8,7 +8,7 @@ use ring_wire::Frame;
 use std::alloc::{AllocError, Global};
 
 /// The maximum number of bytes that are looked at to see whether they are text.
-const MAX_TEXT: usize = 64;
+const TEXT_PROBE_BYTES: usize = 64;
 
 /// The maximum length of a frame's body in bytes.
 const MAX_BODY_BYTES: u32 = MAX_FRAME_BYTES as u32 - HEAD_BYTES as u32;
@@ -29,7 +29,7 @@ pub fn frames_reason(alloc: Global, bytes: &[u8]) -> Result<Option<String>, Allo
         if rest.is_empty() {
             return Ok(None);
         }
-        match Frame::get_into(alloc, rest, &mut frame) {
+        match Frame::decode_first_frame_into(alloc, rest, &mut frame) {
             Ok(length) => rest = rest.get(length..).unwrap_or(&[]),
             Err(Fault::Memory) => return Err(AllocError),
             Err(_) => return Ok(Some(start_reason(alloc, rest)?)),
@@ -43,7 +43,7 @@ fn start_reason(alloc: Global, rest: &[u8]) -> Result<String, AllocError> {
     if let Some(start) = wrong_start(rest) {
         return wrong_start_reason(alloc, rest, start);
     }
-    match FrameHead::of(rest) {
+    match FrameHead::from_bytes(rest) {
         Some(head) => head_reason(alloc, head, rest.len().saturating_sub(HEAD_BYTES)),
         None => format!(in alloc;
             "the file ends after {} of the {HEAD_BYTES} bytes of a frame's head",
@@ -63,7 +63,7 @@ fn wrong_start(rest: &[u8]) -> Option<[u8; 2]> {
 
 /// Explains that the bytes, whose first two are `start`, don't begin as a frame does.
 fn wrong_start_reason(alloc: Global, rest: &[u8], start: [u8; 2]) -> Result<String, AllocError> {
-    if is_text(rest) {
+    if begins_with_text(rest) {
         return String::from_str(
             alloc,
             "text stands there; frames are bytes, and each begins with the bytes 54 52",
@@ -76,8 +76,9 @@ fn wrong_start_reason(alloc: Global, rest: &[u8], start: [u8; 2]) -> Result<Stri
 }
 
 /// Returns whether the first 64 bytes are only visible ASCII characters, spaces and ends of lines.
-fn is_text(rest: &[u8]) -> bool {
-    rest.iter().take(MAX_TEXT).all(|byte| byte.is_ascii_graphic() || byte.is_ascii_whitespace())
+fn begins_with_text(rest: &[u8]) -> bool {
+    rest.iter().take(TEXT_PROBE_BYTES).all(|byte| byte.is_ascii_graphic()
+        || byte.is_ascii_whitespace())
 }
 
 /// Explains why no frame can have this head, or the `left` bytes after it in the file.

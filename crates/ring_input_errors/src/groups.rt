@@ -49,7 +49,7 @@ fn member_reason(
     seen: &mut ProcSet,
 ) -> Result<Option<String>, AllocError> {
     let wanted = ExpectedWord {
-        part: WordMeaning::Node,
+        word_meaning: WordMeaning::Node,
         nodes,
     };
     let number = match word.parse::<u8>() {

@@ -13,7 +13,7 @@ mod form;
 mod frame_head;
 mod frames;
 mod groups;
-mod line;
+mod line_position;
 mod name_list;
 mod operation;
 mod quoted_word;

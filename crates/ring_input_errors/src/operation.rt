@@ -67,7 +67,7 @@ fn arguments_reason(
     words: &mut Split<'_, char>,
 ) -> Reason {
     for argument in arguments {
-        if let Some(reason) = part_reason(alloc, nodes, part_of(*argument), words)? {
+        if let Some(reason) = part_reason(alloc, nodes, argument_meaning(*argument), words)? {
             return Ok(Some(reason));
         }
     }
@@ -75,7 +75,7 @@ fn arguments_reason(
 }
 
 /// Returns the meaning of the word that gives this argument.
-fn part_of(argument: Argument) -> WordMeaning {
+fn argument_meaning(argument: Argument) -> WordMeaning {
     match argument {
         Argument::Key => WordMeaning::Key,
         Argument::Value => WordMeaning::Value,

@@ -20,7 +20,7 @@ impl fmt::Display for QuotedWord<'_> {
     fn fmt<W: fmt::Write>(&self, f: &mut fmt::Formatter<W>) -> fmt::Result {
         f.write_str("`")?;
         for byte in self.0.as_bytes().iter().take(MAX_QUOTED) {
-            show(*byte, f)?;
+            write_quoted_byte(*byte, f)?;
         }
         f.write_str(if self.0.len() > MAX_QUOTED {
             "..`"
@@ -30,7 +30,7 @@ impl fmt::Display for QuotedWord<'_> {
     }
 }
 
-fn show<W: fmt::Write>(byte: u8, f: &mut fmt::Formatter<W>) -> fmt::Result {
+fn write_quoted_byte<W: fmt::Write>(byte: u8, f: &mut fmt::Formatter<W>) -> fmt::Result {
     if byte.is_ascii_graphic() {
         write!(f, "{}", char::from(byte))
     } else {

@@ -9,7 +9,7 @@ use crate::closest_name::{Suggestion, closest_name};
 use crate::comment::{COMMENT, has_comment_behind_gap, is_comment};
 use crate::form::{LINES, LineForm, TrailingWords, line_form};
 use crate::groups::groups_reason;
-use crate::line::{LinePosition, PositionedLine, line_at};
+use crate::line_position::{LinePosition, PositionedLine, line_at};
 use crate::name_list::NameList;
 use crate::operation::operation_reason;
 use crate::quoted_word::QuotedWord;
@@ -234,7 +234,10 @@ pub(crate) fn part_reason(
         Some(word) if part.accepts(nodes, word) => Ok(None),
         Some(word) => mismatch_reason(alloc, word, part, nodes),
         None => {
-            let wanted = ExpectedWord { part, nodes };
+            let wanted = ExpectedWord {
+                word_meaning: part,
+                nodes,
+            };
             Ok(Some(format!(in alloc; "the line ends where this is expected: {wanted}")?))
         }
     }
@@ -245,7 +248,10 @@ fn mismatch_reason(alloc: Global, word: &str, part: WordMeaning, nodes: u8) -> R
     if is_comment(word) {
         return plain_reason(alloc, COMMENT);
     }
-    let wanted = ExpectedWord { part, nodes };
+    let wanted = ExpectedWord {
+        word_meaning: part,
+        nodes,
+    };
     let meant = match part {
         WordMeaning::Timeout => closest_name(alloc, word, &timeout_names())?,
         _ => Suggestion(None),

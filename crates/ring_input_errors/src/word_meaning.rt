@@ -111,14 +111,14 @@ fn are_bytes(word: &str, most: usize) -> bool {
 #[derive(Clone, Copy)]
 pub(crate) struct ExpectedWord {
     /// The expected meaning.
-    pub(crate) part: WordMeaning,
+    pub(crate) word_meaning: WordMeaning,
     /// The number of nodes of the script.
     pub(crate) nodes: u8,
 }
 
 impl fmt::Display for ExpectedWord {
     fn fmt<W: fmt::Write>(&self, f: &mut fmt::Formatter<W>) -> fmt::Result {
-        let words = match self.part {
+        let words = match self.word_meaning {
             WordMeaning::Count => "a number of nodes",
             WordMeaning::Vote => "a number of votes",
             WordMeaning::Node => "a node",
@@ -133,7 +133,7 @@ impl fmt::Display for ExpectedWord {
             WordMeaning::Operation => return write_bytes(f, MAX_OPERATION),
             WordMeaning::Name => return write!(f, "a name of 1 to {MAX_NAME_BYTES} bytes"),
         };
-        match self.part.bounds(self.nodes) {
+        match self.word_meaning.bounds(self.nodes) {
             Some((least, most)) => write!(f, "{words}, {least} to {most}"),
             None => write!(f, "{words}"),
         }

@@ -4,7 +4,7 @@ use Rattle.std.specs.Prelude.{slice_index_or, ◌↔◌}
 use Rattle.std.specs.List.{AllByRecursion, Any}
 use Rattle.ring_wire.specs.Base.{IsMember, only, nobody_member, only_members, union_members, within_members}
 use Rattle.ring_wire.specs.declared.join.Join.{Join}
-use Rattle.ring_join.specs.Gathering.{Gathering, SaysSame, senders, agreeing, candidates, has_consensus, HasConsensus, AllSaySame, AllAreProcs}
+use Rattle.ring_join.specs.Gathering.{Gathering, HasOwnSets, senders_of_joins, agreeing, candidates, has_consensus, HasConsensus, AllHaveOwnSets, AllAreProcs}
 use Rattle.ring_join.specs.Gathering.{is_own_or_failed, has_same_sets, has_smaller_sets, join_effect}
 use Rattle.ring_join.specs.declared.join_effect.JoinEffect.TheVariants.{Ignored, Agrees, Merges}
 
@@ -16,37 +16,37 @@ any-later : {X : Type 0} (P : X → Type 0) (x : X) (xs : List X) → Any P xs �
 any-later P x xs a = (suc a.0, a.1, (let l = a.2 in omega arith), a.3, a.4)
 
 abbrev Said : Gathering → ℕ → Join → Type 0
-Said g i j = (j.sender ≡ i) × SaysSame g j
+Said g i j = (j.sender ≡ i) × HasOwnSets g j
 
 sender_said : (g : Gathering) (i : ℕ) (js : List Join) → AllByRecursion (λ (j : Join). 1 ≤ j.sender) js
-    → AllByRecursion (SaysSame g) js → IsMember (senders js) i → Any (Said g i) js
+    → AllByRecursion (HasOwnSets g) js → IsMember (senders_of_joins js) i → Any (Said g i) js
 sender_said g i [] p h m = absurd (nobody_member i m)
 sender_said g i (j ∷ js) p h m =
-    elim ((union_members (only j.sender) (senders js) i).0 m) [
+    elim ((union_members (only j.sender) (senders_of_joins js) i).0 m) [
       | inl e ↦ any-here (Said g i) j js (sym ((only_members j.sender i p.0).0 e), h.0)
       | inr e ↦ any-later (Said g i) j js (sender_said g i js p.1 h.1 e)
     ]
 
 -- The sender of the join at a position is among the senders.
 sender_at : (g : Gathering) (i : ℕ) (js : List Join) (k : ℕ) (x : Join) → AllByRecursion (λ (j : Join). 1 ≤ j.sender)
-    js → k < length js → slice_index_or js k x ≡ x → Said g i x → IsMember (senders js) i
+    js → k < length js → slice_index_or js k x ≡ x → Said g i x → IsMember (senders_of_joins js) i
 sender_at g i [] k x p l e q = absurd (omega arith)
-sender_at g i (j ∷ js) zero x p l e q = (union_members (only j.sender) (senders js) i).1
+sender_at g i (j ∷ js) zero x p l e q = (union_members (only j.sender) (senders_of_joins js) i).1
     (inl ((only_members j.sender i p.0).1 (sym q.0 ∙ ap (λ (y : Join). y.sender) (sym e))))
-sender_at g i (j ∷ js) (suc k) x p l e q = (union_members (only j.sender) (senders js) i).1 (inr (sender_at g i js k x p.1 (omega arith) e q))
+sender_at g i (j ∷ js) (suc k) x p l e q = (union_members (only j.sender) (senders_of_joins js) i).1 (inr (sender_at g i js k x p.1 (omega arith) e q))
 
-pub consensus : (me : ℕ) (g : Gathering) → 1 ≤ me → AllAreProcs g → AllSaySame g → (has_consensus me g ≡ true) ↔ HasConsensus me g
+pub consensus : (me : ℕ) (g : Gathering) → 1 ≤ me → AllAreProcs g → AllHaveOwnSets g → (has_consensus me g ≡ true) ↔ HasConsensus me g
 consensus me g low p h = (
   λ e i m.
       let a = (within_members (candidates g) (agreeing me g)).0 e i m in
-      elim ((union_members (only me) (senders g.counted_joins) i).0 a) [
+      elim ((union_members (only me) (senders_of_joins g.counted_joins) i).0 a) [
         | inl q ↦ inl ((only_members me i low).0 q)
         | inr q ↦ inr (sender_said g i g.counted_joins p h q)
       ],
   λ c. (within_members (candidates g) (agreeing me g)).1 (λ i m.
       elim (c i m) [
-        | inl q ↦ (union_members (only me) (senders g.counted_joins) i).1 (inl ((only_members me i low).1 q))
-        | inr q ↦ (union_members (only me) (senders g.counted_joins) i).1 (inr (sender_at g i g.counted_joins q.0 q.1 p q.2 q.3 q.4))
+        | inl q ↦ (union_members (only me) (senders_of_joins g.counted_joins) i).1 (inl ((only_members me i low).1 q))
+        | inr q ↦ (union_members (only me) (senders_of_joins g.counted_joins) i).1 (inr (sender_at g i g.counted_joins q.0 q.1 p q.2 q.3 q.4))
       ]),
 )
 

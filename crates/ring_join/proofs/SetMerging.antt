@@ -4,7 +4,7 @@ use Rattle.std.specs.Prelude.{◌&&◌}
 use Rattle.std.proofs.lemmas.Bool.{cases_Bool, cond_both, cond-true, cond-false, or_parts, both_ways}
 use Rattle.ring_wire.specs.Base.{IsMember, only, has, within, union, union_members, within_members, only_members, has_member}
 use Rattle.ring_wire.specs.declared.join.Join.{Join}
-use Rattle.ring_join.specs.Gathering.{Gathering, Ignored, Agrees, Merges, has_same_sets, has_smaller_sets, is_own_or_failed, join_effect, agreed}
+use Rattle.ring_join.specs.Gathering.{Gathering, Ignored, Agrees, Merges, has_same_sets, has_smaller_sets, is_own_or_failed, join_effect, with_agreement}
 use Rattle.ring_join.specs.Gathering.{sets_merged, join_merged}
 use Rattle.ring_join.specs.Gatherers.{HasSetsOf}
 
@@ -56,5 +56,5 @@ widening me g j h =
 pub widens_changes : (me : ℕ) (g : Gathering) (j : Join) → join_effect me g j ≡ Merges → HasSetsOf g (join_merged me g j) → ⊥
 widens_changes me g j h =
     let w = widening me g j h in
-    cond_both (has_same_sets (sets_merged me g j) j) (agreed (sets_merged me g j) j) (sets_merged me g j)
+    cond_both (has_same_sets (sets_merged me g j) j) (with_agreement (sets_merged me g j) j) (sets_merged me g j)
     (λ (k : Gathering). HasSetsOf g k → ⊥) (λ e. wider me g j w.counted_joins w.large) (λ e. wider me g j w.counted_joins w.large)

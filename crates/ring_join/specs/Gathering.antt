@@ -40,8 +40,8 @@ abbrev pub join_effect : ℕ → Gathering → Join → JoinEffect
 join_effect me g j = if is_own_or_failed me g j then Ignored else if has_same_sets g j then Agrees else if has_smaller_sets g j then Ignored else Merges
 
 -- Gather 3: the sender agrees, and the number of its join is counted.
-abbrev pub agreed : Gathering → Join → Gathering
-agreed g j = record g { counted_joins = j ∷ g.counted_joins }
+abbrev pub with_agreement : Gathering → Join → Gathering
+with_agreement g j = record g { counted_joins = j ∷ g.counted_joins }
 
 -- Gather 5: a sender that has given up this node is given up; otherwise the processors that it has given up are.
 abbrev pub merged_fail_set : ℕ → Gathering → Join → ℕ
@@ -53,7 +53,7 @@ sets_merged me g j = record { proc_set = union g.proc_set j.proc_set; fail_set =
 
 -- Gather 5: if the join has exactly the widened sets, its sender agrees.
 abbrev pub agreed_if_same : Gathering → Join → Gathering
-agreed_if_same g j = if has_same_sets g j then agreed g j else g
+agreed_if_same g j = if has_same_sets g j then with_agreement g j else g
 
 -- Gather 5 as a whole: the gathering after a join that widens the sets.
 abbrev pub join_merged : ℕ → Gathering → Join → Gathering
@@ -62,19 +62,19 @@ join_merged me g j = agreed_if_same (sets_merged me g j) j
 -- Gather 4 and 5: the gathering after a join is heard.
 abbrev pub gathering_after_join : JoinEffect → ℕ → Gathering → Join → Gathering
 gathering_after_join Ignored me g j = g
-gathering_after_join Agrees me g j = agreed g j
+gathering_after_join Agrees me g j = with_agreement g j
 gathering_after_join Merges me g j = join_merged me g j
 
 -- Agreeing
 
 -- The senders of these joins.
-abbrev pub senders : List Join → ℕ
-senders [] = nobody
-senders (j ∷ js) = union (only j.sender) (senders js)
+abbrev pub senders_of_joins : List Join → ℕ
+senders_of_joins [] = nobody
+senders_of_joins (j ∷ js) = union (only j.sender) (senders_of_joins js)
 
 -- Gather 3: the processors that agree: the node itself, and those whose joins have its sets.
 abbrev pub agreeing : ℕ → Gathering → ℕ
-agreeing me g = union (only me) (senders g.counted_joins)
+agreeing me g = union (only me) (senders_of_joins g.counted_joins)
 
 -- The processors of `proc_set` that are not given up.
 abbrev pub candidates : Gathering → ℕ
@@ -89,21 +89,21 @@ abbrev pub silent_given_up : ℕ → Gathering → Gathering
 silent_given_up me g = record g { fail_set = union g.fail_set (less (candidates g) (agreeing me g)); counted_joins = [] }
 
 -- The join has exactly the node's sets.
-pub record SaysSame (g : Gathering) (j : Join) : Type 0 where
+pub record HasOwnSets (g : Gathering) (j : Join) : Type 0 where
   pub proc_set : j.proc_set ≡ g.proc_set
   pub fail_set : j.fail_set ≡ g.fail_set
 
 -- The processor agrees: it is the node, or it sent a counted join with exactly the node's sets.
 abbrev pub IsAgreeing : ℕ → Gathering → ℕ → Type 0
-IsAgreeing me g i = (i ≡ me) ⊎ Any (λ j. (j.sender ≡ i) × SaysSame g j) g.counted_joins
+IsAgreeing me g i = (i ≡ me) ⊎ Any (λ j. (j.sender ≡ i) × HasOwnSets g j) g.counted_joins
 
 -- Gather 9: consensus: each processor that is not given up agrees.
 abbrev pub HasConsensus : ℕ → Gathering → Type 0
 HasConsensus me g = (i : ℕ) → IsMember (candidates g) i → IsAgreeing me g i
 
 -- Each counted join has exactly the node's sets.
-abbrev pub AllSaySame : Gathering → Type 0
-AllSaySame g = AllByRecursion (SaysSame g) g.counted_joins
+abbrev pub AllHaveOwnSets : Gathering → Type 0
+AllHaveOwnSets g = AllByRecursion (HasOwnSets g) g.counted_joins
 
 -- Each counted join is from a processor.
 abbrev pub AllAreProcs : Gathering → Type 0

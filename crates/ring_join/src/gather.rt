@@ -5,7 +5,7 @@
 ghost use Rattle.std.specs.Prelude.{◌≡◌, ◌↔◌, true, [], IsTrue, IsSome, IfSome};
 ghost use Rattle.ring_wire.specs.Base.{IsMember};
 ghost use Rattle.ring_join.specs.declared.join_effect.JoinEffect.TheVariants.{Merges};
-ghost use Rattle.ring_join.specs.Gathering.{gathering_opening, join_effect, has_same_sets, agreed, sets_merged, join_merged, gathering_after_join, silent_given_up, candidates};
+ghost use Rattle.ring_join.specs.Gathering.{gathering_opening, join_effect, has_same_sets, with_agreement, sets_merged, join_merged, gathering_after_join, silent_given_up, candidates};
 ghost use Rattle.ring_join.specs.Gathering.{agreeing, has_consensus, HasConsensus, greatest_known, own_join};
 ghost use Rattle.ring_join.specs.Gatherers.{HasSetsOf};
 
@@ -73,7 +73,7 @@ impl Gather {
         if join.sender == self.me || self.fail_set.contains(join.sender) {
             return JoinEffect::Ignored;
         }
-        if self.has_sets_of(join) {
+        if self.has_same_sets_as(join) {
             return JoinEffect::Agrees;
         }
         if join.proc_set.is_subset(self.proc_set) && join.fail_set.is_subset(self.fail_set) {
@@ -87,13 +87,13 @@ impl Gather {
     /// The join must have exactly the node's `proc_set` and `fail_set`.
     ///
     /// Rules: Gather 3, 4 and 14
-    pub fn agree(&mut self, join: &Join)
+    pub fn count_agreement(&mut self, join: &Join)
         requires { has_same_sets self.old.gathering join.now ≡ true }
-        ensures { self.new ≡ record self.old { gathering = agreed self.old.gathering join.now } }
+        ensures { self.new ≡ record self.old { gathering = with_agreement self.old.gathering join.now } }
     {
         let counted_joins = ghost_of(&(&self.counted_joins, join));
         self.counted_joins = counted_joins;
-        self.join_senders = ProcSet::only(join.sender).union(self.join_senders);
+        self.join_senders = ProcSet::singleton(join.sender).union(self.join_senders);
         self.greatest_counted = self.greatest_counted.max(join.number);
     }
 
@@ -107,15 +107,15 @@ impl Gather {
         ensures { self.new ≡ record self.old { gathering = join_merged self.old.me self.old.gathering join.now } }
     {
         self.merge_sets(join);
-        if self.has_sets_of(join) {
-            self.agree(join);
+        if self.has_same_sets_as(join) {
+            self.count_agreement(join);
         }
     }
 
     /// Applies a join, with the effect that [`join_effect`](Gather::join_effect) returns.
     ///
     /// Returns whether `proc_set` or `fail_set` changed. The ring core calls `join_effect` as it decides, and
-    /// [`agree`](Gather::agree) or [`merge_join`](Gather::merge_join) as it acts.
+    /// [`count_agreement`](Gather::count_agreement) or [`merge_join`](Gather::merge_join) as it acts.
     ///
     /// Rules: Gather 4, 5 and 14
     pub fn hear(&mut self, join: Join) -> bool
@@ -126,7 +126,7 @@ impl Gather {
         match self.join_effect(&join) {
             JoinEffect::Ignored => false,
             JoinEffect::Agrees => {
-                self.agree(&join);
+                self.count_agreement(&join);
                 false
             }
             JoinEffect::Merges => {
@@ -144,7 +144,7 @@ impl Gather {
     pub fn give_up(&mut self)
         ensures { self.new ≡ record self.old { gathering = silent_given_up self.old.me self.old.gathering } }
     {
-        let silent = self.candidates().less(self.agreeing());
+        let silent = self.candidates().without_members(self.agreeing());
         self.fall_back();
         self.fail_set = self.fail_set.union(silent);
     }
@@ -157,7 +157,7 @@ impl Gather {
     pub fn candidates(&self) -> ProcSet
         ensures { result ≡ candidates self.now.gathering }
     {
-        self.proc_set.less(self.fail_set)
+        self.proc_set.without_members(self.fail_set)
     }
 
     /// Returns the [`candidates`](Gather::candidates) if there is consensus, that is if all of them agree, otherwise
@@ -220,7 +220,7 @@ impl Clone for Gather {
 
 impl Gather {
     /// Returns whether the join has exactly the node's own sets.
-    fn has_sets_of(&self, join: &Join) -> bool
+    fn has_same_sets_as(&self, join: &Join) -> bool
         ensures { result ≡ has_same_sets self.now.gathering join.now }
     {
         join.proc_set == self.proc_set && join.fail_set == self.fail_set
@@ -231,7 +231,7 @@ impl Gather {
         ensures value { result ≡ agreeing self.now.me self.now.gathering }
         ensures itself { IsMember result self.now.me }
     {
-        ProcSet::only(self.me).union(self.join_senders)
+        ProcSet::singleton(self.me).union(self.join_senders)
     }
 
     /// Lets agreement fall back to the node itself: no join is counted any more.
@@ -251,7 +251,7 @@ impl Gather {
         ensures { self.new ≡ record self.old { gathering = sets_merged self.old.me self.old.gathering join.now } }
     {
         let failed = if join.fail_set.contains(self.me) {
-            ProcSet::only(join.sender)
+            ProcSet::singleton(join.sender)
         } else {
             join.fail_set
         };

@@ -3,7 +3,7 @@
 //! Rules: Gather 9
 
 ghost use Rattle.std.specs.Prelude.{◌≡◌, ◌↔◌, ◌≤◌, ℕ, true};
-ghost use Rattle.ring_join.specs.Gathering.{Gathering, has_consensus, HasConsensus, AllSaySame, AllAreProcs};
+ghost use Rattle.ring_join.specs.Gathering.{Gathering, has_consensus, HasConsensus, AllHaveOwnSets, AllAreProcs};
 
 /// States that the test for consensus succeeds exactly if each processor that isn't given up agrees.
 ///
@@ -11,6 +11,6 @@ ghost use Rattle.ring_join.specs.Gathering.{Gathering, has_consensus, HasConsens
 /// counted joins have exactly its sets.
 ///
 /// Rules: Gather 9
-pub fn consensus_law()
-    ensures { (me : ℕ) (g : Gathering) → 1 ≤ me → AllAreProcs g → AllSaySame g → (has_consensus me g ≡ true) ↔ HasConsensus me g }
+pub fn consensus_test_law()
+    ensures { (me : ℕ) (g : Gathering) → 1 ≤ me → AllAreProcs g → AllHaveOwnSets g → (has_consensus me g ≡ true) ↔ HasConsensus me g }
 {}

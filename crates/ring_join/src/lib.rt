@@ -9,4 +9,4 @@ mod laws;
 
 pub use gather::Gather;
 pub use join_effect::JoinEffect;
-pub use laws::consensus_law;
+pub use laws::consensus_test_law;

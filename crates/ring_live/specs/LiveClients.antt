@@ -5,7 +5,7 @@ use Rattle.std.specs.Option.{unwrap_or}
 use Rattle.ring_base.specs.declared.fault.Fault.{Fault}
 use Rattle.ring_base.specs.declared.fault.Fault.TheVariants.{NotMember}
 use Rattle.ring_client.specs.Calling.{ClientOf, IsReplied}
-use Rattle.ring_client.specs.declared.asked.Asked.{Asked}
+use Rattle.ring_client.specs.declared.last_request.Asked.{Asked}
 use Rattle.ring_host_port.specs.Clients.{AreForAll}
 use Rattle.ring_host_port.specs.Gauges.{TableId}
 use Rattle.ring_live.specs.declared.live_client.LiveClient.{LiveClient}

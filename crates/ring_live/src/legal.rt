@@ -7,7 +7,7 @@ ghost use Rattle.ring_base.specs.declared.fault.Fault.TheVariants.{Memory};
 
 use ring_base::Fault;
 use ring_console::is_linearization;
-use ring_host_port::{BookName, ClientCalls, Host, calls_of};
+use ring_host_port::{BookName, ClientCalls, Host, client_calls_of};
 use ring_object::Object;
 use std::alloc::Allocator;
 use std::sync::Wait;
@@ -28,6 +28,6 @@ pub fn is_legal<O: Object, K: BookName<O::Alloc>, W: Wait>(
     ensures ok { IfOk result (λ is_legal. is_legal ≡ true) }
     ensures refused { IfErr result (λ fault. fault ≡ Memory) }
 {
-    let ClientCalls { order, history } = calls_of(rt, host)?;
+    let ClientCalls { order, history } = client_calls_of(rt, host)?;
     is_linearization::<O>(alloc, order.as_slice(), history.as_slice())
 }

@@ -9,9 +9,9 @@ ghost use Rattle.ring_live.specs.LiveClients.{HasSeats, count_in_reply, read_byt
 
 use ring_base::Fault;
 use ring_client::{Client, Port};
-use ring_host_port::{BookName, Host, Seat, client_of};
+use ring_host_port::{BookName, Host, Seat, client_with_ports};
 use ring_object::{Object, Reply};
-use ring_things::{Counters, ReplyParts, ShelfPlace};
+use ring_things::{Counters, ReplyParts, ShelfPosition};
 use std::alloc::{Allocator, Global};
 use std::mem::replace;
 use std::sync::Wait;
@@ -20,13 +20,13 @@ use std::thread::{self, Parker};
 use std::time::Duration;
 
 /// The place of the counters on the shelf of the standard object.
-const COUNTERS: ShelfPlace = ShelfPlace::Second;
+const COUNTERS: ShelfPosition = ShelfPosition::Second;
 
 /// The number of unsuccessful looks after which a client that waits for the others starts to sleep.
-const PATIENCE: u64 = 1_000;
+const LOOKS_BEFORE_SLEEP: u64 = 1_000;
 
 /// The length of a sleep, in microseconds.
-const NAP: u64 = 50;
+const SLEEP_MICROS: u64 = 50;
 
 /// A client with a thread of its own: its number, a seat of the host for each of its ports, and the results of its
 /// calls.
@@ -69,7 +69,7 @@ impl<A: Allocator + Copy + Drop> LiveClient<A> {
 ///
 /// Rules: Objects 7
 /// Formats: The command line
-pub(crate) fn call<O: Object, K: BookName<O::Alloc>, W: Wait>(
+pub(crate) fn run_live_client<O: Object, K: BookName<O::Alloc>, W: Wait>(
     rt: &W,
     alloc: O::Alloc,
     host: &Host<O, K>,
@@ -101,8 +101,8 @@ fn try_call<O: Object, K: BookName<O::Alloc>, W: Wait>(
 {
     let number = live_client.number;
     let seats = replace(&mut live_client.seats, Vec::new(alloc));
-    let mut client = client_of(rt, alloc, host, seats, u32::from(number), number)?;
-    live_client.answered = add(&mut client, calls);
+    let mut client = client_with_ports(rt, alloc, host, seats, u32::from(number), number)?;
+    live_client.answered = add_to_counter(&mut client, calls);
     if number != 1 {
         return Ok(0);
     }
@@ -113,7 +113,7 @@ fn try_call<O: Object, K: BookName<O::Alloc>, W: Wait>(
 /// Makes `calls` adds, or ends at the first fault.
 ///
 /// Returns the number of answered adds. The client's next number is higher by as many.
-fn add<P: Port>(client: &mut Client<P>, calls: u8) -> u64
+fn add_to_counter<P: Port>(client: &mut Client<P>, calls: u8) -> u64
     ensures most { result ≤ calls }
     ensures answered { client.new.next ≡ client.old.next + result }
 {
@@ -132,12 +132,12 @@ fn add<P: Port>(client: &mut Client<P>, calls: u8) -> u64
 ///
 /// Rules: Objects 7
 fn read_counter<P: Port>(client: &mut Client<P>) -> Result<u64, Fault>
-    ensures counter { IfOk result (HasRead P.asked_of client.old client.new) }
-    ensures refused { IfErr result (CallRefused P.asked_of client.old client.new read_bytes) }
+    ensures counter { IfOk result (HasRead P.trace_options_of client.old client.new) }
+    ensures refused { IfErr result (CallRefused P.trace_options_of client.old client.new read_bytes) }
 {
     let read = COUNTERS.operation(&Counters::read(0));
     match client.call(read.as_slice()) {
-        Ok(reply) => Ok(count_in(&reply)),
+        Ok(reply) => Ok(counter_value_in(&reply)),
         Err(fault) => Err(fault),
     }
 }
@@ -153,14 +153,14 @@ fn wait_for_others<W: Wait>(rt: &W, running: &AtomicU64) {
         }
         thread::yield_now();
         looks = looks.saturating_add(1);
-        if looks >= PATIENCE {
-            Parker::new().park_timeout(rt, Duration::from_micros(NAP));
+        if looks >= LOOKS_BEFORE_SLEEP {
+            Parker::new().park_timeout(rt, Duration::from_micros(SLEEP_MICROS));
         }
     }
 }
 
 /// Returns the count in a reply, 0 if it has none.
-fn count_in(reply: &Reply) -> u64
+fn counter_value_in(reply: &Reply) -> u64
     ensures { result ≡ count_in_reply reply.now }
 {
     match ReplyParts::read(reply.as_slice()) {

@@ -11,7 +11,7 @@ ghost use Rattle.ring_live.specs.declared.running.LiveResult.{LiveResult};
 
 use crate::running::{LiveResult, run_live_nodes};
 use ring_base::{Fault, Fixed};
-use ring_console::{Failure, StandardObjects, report};
+use ring_console::{Failure, StandardObjects, report_failure};
 use ring_failure::NOT_LEGAL;
 use std::alloc::Global;
 use std::io::Write;
@@ -48,21 +48,21 @@ pub fn live<W: Threads + Wait + Sync, O: Write, E: Write>(
     ensures printed { result ≡ 0 → (live_result : LiveResult) × (counter : ℕ) × (live_result.nodes ≡ nodes) × (live_result.counter ≡ Ok counter) × (live_result.is_legal ≡ true)
         × Appends (O.contents out.old) (O.contents out.new) (live_result_text live_result counter) }
 {
-    let live_result = match run(rt, alloc, nodes, calls) {
+    let live_result = match run_standard_object(rt, alloc, nodes, calls) {
         Ok(live_result) => live_result,
-        Err(fault) => return report(err, Failure::Refused(fault)),
+        Err(fault) => return report_failure(err, Failure::Refused(fault)),
     };
     match print_live_result(live_result, out) {
         Ok(()) if live_result.is_legal => 0,
         Ok(()) => NOT_LEGAL,
-        Err(failure) => report(err, failure),
+        Err(failure) => report_failure(err, failure),
     }
 }
 
 /// Runs nodes and clients with the standard object.
 ///
 /// Errors: `NotMember` if `nodes` isn't 1 to 16; otherwise `Memory` if an allocation fails.
-fn run<W: Threads + Wait + Sync>(
+fn run_standard_object<W: Threads + Wait + Sync>(
     rt: &W,
     alloc: Global,
     nodes: u8,

@@ -10,7 +10,7 @@ ghost use Rattle.ring_live.specs.LiveClients.{HasSeats, answered_of, counter_of,
 ghost use Rattle.ring_seat.specs.Seats.{IsAt};
 
 use crate::legal::is_legal;
-use crate::live_client::{LiveClient, call};
+use crate::live_client::{LiveClient, run_live_client};
 use ring_base::{Fault, Fixed, MAX_PROCESSORS};
 use ring_host_port::{BookName, Gate, Host, Opening, Seat, take_seats};
 use ring_object::Object;
@@ -105,15 +105,15 @@ where
             for live_client in each {
                 let called = move ||
                     requires { HasSeats host.now live_client.now }
-                { call(rt, alloc, host, calls, left, live_client) };
+                { run_live_client(rt, alloc, host, calls, left, live_client) };
                 if scope.spawn(called).is_err() {
-                    refuse(rt, host, told);
+                    stop_unstarted_run(rt, host, told);
                     left.fetch_sub(1, Ordering::SeqCst);
                 }
             }
             let mut seats = seats;
             if host.run(rt, seats.as_mut_slice(), gate).is_err() {
-                refuse(rt, host, told);
+                stop_unstarted_run(rt, host, told);
             }
         },
     );
@@ -126,7 +126,7 @@ where
 /// Records that a thread can't be started.
 ///
 /// Stops all nodes whose stop can be allocated, so that clients don't retry their calls for long, and closes the host.
-fn refuse<O: Object, K: BookName<O::Alloc>, W: Wait>(
+fn stop_unstarted_run<O: Object, K: BookName<O::Alloc>, W: Wait>(
     rt: &W,
     host: &Host<O, K>,
     has_refused: &AtomicBool,
@@ -220,17 +220,15 @@ where
     ensures refused { IfErr result (λ fault. fault ≡ Memory) }
 {
     let opening = Opening::<O>::new(alloc, group)?;
-    run_named::<O, Brand, W>(rt, alloc, opening, group.count(), calls)
+    run_at_named_opening::<O, Brand, W>(rt, alloc, opening, group.count(), calls)
 }
 
 /// Runs the nodes and clients at the opening that `K` names.
-fn run_named<O: Object + Send, K: BookName<O::Alloc> + Send + Sync, W: Threads + Wait + Sync>(
-    rt: &W,
-    alloc: O::Alloc,
-    opening: Opening<O>,
-    nodes: u8,
-    calls: u8,
-) -> Result<LiveResult, Fault>
+fn run_at_named_opening<
+    O: Object + Send,
+    K: BookName<O::Alloc> + Send + Sync,
+    W: Threads + Wait + Sync,
+>(rt: &W, alloc: O::Alloc, opening: Opening<O>, nodes: u8, calls: u8) -> Result<LiveResult, Fault>
 where
     O::Alloc: Send + Sync,
     requires name { opening ≡ K.name }

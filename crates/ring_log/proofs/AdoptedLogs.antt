@@ -11,8 +11,8 @@ use Rattle.ring_wire.specs.Payloads.{Call as OneCall}
 use Rattle.ring_log.specs.declared.base.Base.{Base}
 use Rattle.ring_log.specs.declared.wanted.Wanted.{Wanted}
 use Rattle.ring_log.specs.Exchanges.{snapshot_by}
-use Rattle.ring_log.specs.Logs.{Log, restores as log_restores, restored_log, based, joined_log, adopted, committed_calls, begins, is_log_length, is_adoptable}
-use Rattle.ring_log.specs.KnownLog.{KnownLog, IsKnownLog, known_log_length, known_retained, restores, known_log_restored, first_joined, known_log_joined, known_log_adopted, raised, followed_by, dropped_by}
+use Rattle.ring_log.specs.Logs.{Log, restores as log_restores, restored_log, calls_after_base, joined_log, log_after_base, committed_calls, begins, is_log_length, is_adoptable}
+use Rattle.ring_log.specs.KnownLog.{KnownLog, IsKnownLog, known_log_length, known_retained, restores, known_log_restored, first_joined, known_log_joined, known_log_adopted, known_log_committed_upto, followed_by, dropped_by}
 use Rattle.ring_log.specs.KnownLog.{retained_log, begins_kept}
 use Rattle.ring_log.proofs.Calls.{begins-Decides}
 
@@ -42,7 +42,7 @@ module _ {A : Type 0} (k : KnownLog A) (ring : RingId) (w : Wanted) (bytes : Lis
 
   -- the places of a joined base that are kept
   joined-calls : w.from ≤ k.committed
-      → drop (k.trimmed - k.from) (take (first - k.from) k.calls ++ drop (first - w.from) calls) ≡ based the_log the_base
+      → drop (k.trimmed - k.from) (take (first - k.from) k.calls ++ drop (first - w.from) calls) ≡ calls_after_base the_log the_base
   joined-calls le =
       let t = k.trimmed - k.from in
       let low : t ≤ first - k.from = omega (arith, is.low) in
@@ -70,17 +70,17 @@ module _ {A : Type 0} (k : KnownLog A) (ring : RingId) (w : Wanted) (bytes : Lis
   restores-is = ap (λ b. b && nat_lt k.committed w.from) (sym (some-is w.snapshot))
 
   -- both compare a base with the same committed places
-  begins-is : w.from ≤ k.committed → begins_kept k (known_log_joined k ring w calls) ≡ begins (committed_calls the_log) (based the_log the_base)
+  begins-is : w.from ≤ k.committed → begins_kept k (known_log_joined k ring w calls) ≡ begins (committed_calls the_log) (calls_after_base the_log the_base)
   begins-is le =
       ap (λ l. begins l (drop (k.trimmed - k.from) (take (first - k.from) k.calls ++ drop (first - w.from) calls))) undropped-is
       ∙ ap (begins (committed_calls the_log)) (joined-calls le)
 
   goes-on-is : nat_le w.from k.committed && begins_kept k (known_log_joined k ring w calls)
-      ≡ nat_le w.from k.committed && begins (committed_calls the_log) (based the_log the_base)
+      ≡ nat_le w.from k.committed && begins (committed_calls the_log) (calls_after_base the_log the_base)
   goes-on-is = by (nat_le w.from k.committed) refl
     where
       by : (b : Bool) → nat_le w.from k.committed ≡ b
-          → b && begins_kept k (known_log_joined k ring w calls) ≡ b && begins (committed_calls the_log) (based the_log the_base)
+          → b && begins_kept k (known_log_joined k ring w calls) ≡ b && begins (committed_calls the_log) (calls_after_base the_log the_base)
       by true t = begins-is (leb-true w.from k.committed t)
       by false f = refl
 
@@ -88,27 +88,27 @@ module _ {A : Type 0} (k : KnownLog A) (ring : RingId) (w : Wanted) (bytes : Lis
   now = known_log_adopted k ring w bytes calls
 
   pub keeps-is : (restores k w || (nat_le w.from k.committed && begins_kept k now))
-      ≡ (log_restores the_log the_base || (nat_le w.from k.committed && begins (committed_calls the_log) (based the_log the_base)))
+      ≡ (log_restores the_log the_base || (nat_le w.from k.committed && begins (committed_calls the_log) (calls_after_base the_log the_base)))
   keeps-is = by (restores k w) refl
     where
       by : (b : Bool) → restores k w ≡ b
           → (restores k w || (nat_le w.from k.committed && begins_kept k now))
-          ≡ (log_restores the_log the_base || (nat_le w.from k.committed && begins (committed_calls the_log) (based the_log the_base)))
+          ≡ (log_restores the_log the_base || (nat_le w.from k.committed && begins (committed_calls the_log) (calls_after_base the_log the_base)))
       by true t =
           ap (λ b. b || (nat_le w.from k.committed && begins_kept k now)) t
-          ∙ sym (ap (λ b. b || (nat_le w.from k.committed && begins (committed_calls the_log) (based the_log the_base))) (sym restores-is ∙ t))
+          ∙ sym (ap (λ b. b || (nat_le w.from k.committed && begins (committed_calls the_log) (calls_after_base the_log the_base))) (sym restores-is ∙ t))
       by false f =
           ap (λ b. b || (nat_le w.from k.committed && begins_kept k now)) f
           ∙ ap (λ x. nat_le w.from k.committed && begins_kept k x)
           (cond-false (restores k w) (known_log_restored ring w bytes calls) (known_log_joined k ring w calls) f)
           ∙ goes-on-is
-          ∙ sym (ap (λ b. b || (nat_le w.from k.committed && begins (committed_calls the_log) (based the_log the_base))) (sym restores-is ∙ f))
+          ∙ sym (ap (λ b. b || (nat_le w.from k.committed && begins (committed_calls the_log) (calls_after_base the_log the_base))) (sym restores-is ∙ f))
 
   -- the log after the adoption is the same in both
-  pub adopted-is : (restores k w || (nat_le w.from k.committed && begins_kept k now)) ≡ true → retained_log now ≡ adopted the_log ring the_base
+  pub adopted-is : (restores k w || (nat_le w.from k.committed && begins_kept k now)) ≡ true → retained_log now ≡ log_after_base the_log ring the_base
   adopted-is t = by (restores k w) refl
     where
-      by : (b : Bool) → restores k w ≡ b → retained_log now ≡ adopted the_log ring the_base
+      by : (b : Bool) → restores k w ≡ b → retained_log now ≡ log_after_base the_log ring the_base
       by true r =
           ap retained_log (cond-true (restores k w) (known_log_restored ring w bytes calls) (known_log_joined k ring w calls) r)
           ∙ restored-is
@@ -206,7 +206,7 @@ module _ {A : Type 0} (k : KnownLog A) (ring : RingId) (w : Wanted) (bytes : Lis
 pub known-followed : {A : Type 0} (k : KnownLog A) (calls : List (OneCall A)) → IsKnownLog k → IsKnownLog (followed_by k calls)
 known-followed k calls is = record { low = is.low; high = is.high; within = omega (arith, is.within, length-append k.calls calls) }
 
-pub known-raised : {A : Type 0} (k : KnownLog A) (n : ℕ) → n ≤ known_log_length k → IsKnownLog k → IsKnownLog (raised n k)
+pub known-raised : {A : Type 0} (k : KnownLog A) (n : ℕ) → n ≤ known_log_length k → IsKnownLog k → IsKnownLog (known_log_committed_upto n k)
 known-raised k n le is = record { low = is.low; high = omega (arith, is.high); within = omega (arith, is.within, le) }
 
 pub known-dropped : {A : Type 0} (k : KnownLog A) (places : ℕ) → places ≤ k.committed → IsKnownLog k → IsKnownLog (dropped_by places k)

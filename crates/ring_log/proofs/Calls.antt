@@ -13,7 +13,7 @@ use Rattle.ring_base.specs.declared.ring_id.RingId.{RingId}
 use Rattle.ring_base.proofs.ListFronts.{take-longer_list}
 use Rattle.ring_wire.specs.Payloads.{Call as OneCall, is_same, is_same-true, is_same-self}
 use Rattle.ring_log.specs.declared.base.Base.{Base}
-use Rattle.ring_log.specs.Logs.{Log, log_length, appended, followed, based, restores, restored_log, joined_log, adopted, adopted_if, trimmed_log}
+use Rattle.ring_log.specs.Logs.{Log, log_length, appended, log_with_calls_if_room, calls_after_base, restores, restored_log, joined_log, log_after_base, log_after_base_if_may, trimmed_log}
 use Rattle.ring_log.specs.Logs.{committed_upto, committed_calls, begins, is_log_length, is_adoptable, IsKeptLog, IsLog, KeepsCommitted}
 
 -- ---- one call
@@ -119,7 +119,7 @@ committed-appended log calls is =
 committed-same : {A : Type 0} (log : Log A) → IsLog log → KeepsCommitted log log
 committed-same log is = stays log log refl is (omega arith) (front-same (committed_calls log) (committed_calls log) refl)
 
-pub committed-followed : {A : Type 0} (log : Log A) (calls : List (OneCall A)) → IsLog log → KeepsCommitted log (followed log calls)
+pub committed-followed : {A : Type 0} (log : Log A) (calls : List (OneCall A)) → IsLog log → KeepsCommitted log (log_with_calls_if_room log calls)
 committed-followed log calls is =
     cond_both (is_log_length (log_length log + length calls)) (appended log calls) log (KeepsCommitted log) (λ t. committed-appended log calls is)
     (λ f. committed-same log is)
@@ -160,21 +160,21 @@ restored-keeps log ring base is may =
     }
 
 -- otherwise the base begins with the kept committed places, so these don't change
-joined-keeps : {A : Type 0} (log : Log A) (ring : RingId) (base : Base A) → IsLog log → begins (committed_calls log) (based log base) ≡ true
+joined-keeps : {A : Type 0} (log : Log A) (ring : RingId) (base : Base A) → IsLog log → begins (committed_calls log) (calls_after_base log base) ≡ true
     → KeepsCommitted log (joined_log log ring base)
 joined-keeps log ring base is may =
     let n = log.committed - log.trimmed in
     let long : length (take n log.calls) ≡ n = length-take-le n log.calls (omega (arith, is.0, is.1)) in
-    let same : committed_calls log ≡ take n (based log base) =
-    (begins-Decides (committed_calls log) (based log base)).0 may ∙ ap (λ k. take k (based log base)) long in
-    let short = length-take n (based log base) in
+    let same : committed_calls log ≡ take n (calls_after_base log base) =
+    (begins-Decides (committed_calls log) (calls_after_base log base)).0 may ∙ ap (λ k. take k (calls_after_base log base)) long in
+    let short = length-take n (calls_after_base log base) in
     stays log (joined_log log ring base) refl (is.0, omega (arith, ap length same, long, short)) (omega arith)
-    (front-same (committed_calls log) (take n (based log base)) same)
+    (front-same (committed_calls log) (take n (calls_after_base log base)) same)
 
 -- so the log stays within its bounds
 pub joined_bounds : {A : Type 0} (log : Log A) (base : Base A) → IsKeptLog log.trimmed log.committed (length log.calls) → base.from ≤ log.committed
-    → begins (committed_calls log) (based log base) ≡ true → is_log_length (base.from + length base.calls) ≡ true
-    → IsKeptLog log.trimmed log.committed (length (based log base))
+    → begins (committed_calls log) (calls_after_base log base) ≡ true → is_log_length (base.from + length base.calls) ≡ true
+    → IsKeptLog log.trimmed log.committed (length (calls_after_base log base))
 joined_bounds log base is le may short =
     let new = (joined-keeps log (record { seq = 0; rep = 0 }) base (is.0, is.1) may).log in
     let most = leb-true (base.from + length base.calls) max_number short in
@@ -185,18 +185,18 @@ joined_bounds log base is le may short =
     (is.0, new.1, omega (arith, is.0, is.1, is.2, le, most, parts, front, rest))
 
 committed-adoptable : {A : Type 0} (log : Log A) (ring : RingId) (base : Base A) → IsLog log → is_adoptable log base ≡ true
-    → KeepsCommitted log (adopted log ring base)
+    → KeepsCommitted log (log_after_base log ring base)
 committed-adoptable {A} log ring base is may =
     cond_both (restores log base) (restored_log log ring base) (joined_log log ring base) (KeepsCommitted log) (restored-keeps log ring base is)
     (λ f. joined-keeps log ring base is
-    (and_parts (nat_le base.from log.committed) (begins (committed_calls log) (based log base)) (goes_on f)).1)
+    (and_parts (nat_le base.from log.committed) (begins (committed_calls log) (calls_after_base log base)) (goes_on f)).1)
   where
-    goes_on : restores log base ≡ false → (nat_le base.from log.committed && begins (committed_calls log) (based log base)) ≡ true
+    goes_on : restores log base ≡ false → (nat_le base.from log.committed && begins (committed_calls log) (calls_after_base log base)) ≡ true
     goes_on f =
-        ap (λ c. c || (nat_le base.from log.committed && begins (committed_calls log) (based log base))) (sym f)
-        ∙ (and_parts (restores log base || (nat_le base.from log.committed && begins (committed_calls log) (based log base)))
+        ap (λ c. c || (nat_le base.from log.committed && begins (committed_calls log) (calls_after_base log base))) (sym f)
+        ∙ (and_parts (restores log base || (nat_le base.from log.committed && begins (committed_calls log) (calls_after_base log base)))
         (is_log_length (base.from + length base.calls)) may).0
 
-pub committed-adopted : {A : Type 0} (log : Log A) (ring : RingId) (base : Base A) → IsLog log → KeepsCommitted log (adopted_if log ring base)
+pub committed-adopted : {A : Type 0} (log : Log A) (ring : RingId) (base : Base A) → IsLog log → KeepsCommitted log (log_after_base_if_may log ring base)
 committed-adopted log ring base is =
-    cond_both (is_adoptable log base) (adopted log ring base) log (KeepsCommitted log) (committed-adoptable log ring base is) (λ f. committed-same log is)
+    cond_both (is_adoptable log base) (log_after_base log ring base) log (KeepsCommitted log) (committed-adoptable log ring base is) (λ f. committed-same log is)

@@ -14,9 +14,9 @@ use Rattle.ring_wire.specs.PayloadVariants.{Call, Wrapped, End, Head, Part, Pack
 use Rattle.ring_wire.specs.declared.message.Message.{Message}
 use Rattle.ring_log.specs.declared.base.Base.{Base}
 use Rattle.ring_log.specs.declared.wanted.Wanted.{Wanted}
-use Rattle.ring_log.specs.Exchanges.{Exchange, exchange_opening, wanted_by, wanted, hear_head, has_wanted_snapshot, is_piece_of, is_next_piece, hear_snap, is_next}
+use Rattle.ring_log.specs.Exchanges.{Exchange, exchange_opening, wanted_from_heads, wanted, hear_head, has_wanted_snapshot, is_piece_of, is_next_piece, hear_snap, is_next}
 use Rattle.ring_log.specs.Exchanges.{is_wanted, hear_part, heard, has_all_wanted, is_exchange_complete, snapshot_by, base_from, handed_out, base_at, exchange_drained}
-use Rattle.ring_log.specs.EpochHistories.{CompleteExchange, exchange_after_message, complete_exchange_from, after_all, drained_exchange_after, complete_exchange, base_ending, places_below, base_on, own_base}
+use Rattle.ring_log.specs.EpochHistories.{CompleteExchange, exchange_after_message, complete_exchange_from, exchange_after_messages, drained_exchange_after, complete_exchange, base_ending, places_below, base_on, own_base}
 use Rattle.ring_log.proofs.Calls.{never}
 
 -- ---- a complete exchange
@@ -27,11 +27,11 @@ received_head-by false o received_bytes total places whole = absurd (cc whole)
 
 -- every member's Head was received
 pub received_head : {A : Type 0} (e : Exchange A) → is_exchange_complete e ≡ true → e.missing_heads ≡ nobody
-received_head e whole = eqb-true e.missing_heads nobody (received_head-by (e.missing_heads == nobody) (wanted_by e.heads) e.received_bytes e.total e.places whole)
+received_head e whole = eqb-true e.missing_heads nobody (received_head-by (e.missing_heads == nobody) (wanted_from_heads e.heads) e.received_bytes e.total e.places whole)
 
 -- while a member's Head is missing nothing is wanted
 pub wants_nothing : {A : Type 0} (e : Exchange A) (p : ℕ) → IsMember e.missing_heads p → wanted e ≡ None
-wants_nothing e p m = cond_both (e.missing_heads == nobody) (wanted_by e.heads) None (λ (o : Option Wanted). o ≡ None)
+wants_nothing e p m = cond_both (e.missing_heads == nobody) (wanted_from_heads e.heads) None (λ (o : Option Wanted). o ≡ None)
     (λ t. absurd (nobody_member p (subst (λ u. IsMember u p) (eqb-true e.missing_heads nobody t) m)))
     (λ f. refl)
 
@@ -114,9 +114,9 @@ whole-heard e sender End whole = refl
 whole-heard e sender (Pack pack) whole = refl
 whole-heard e sender (Snap snap) whole = whole-snap e sender snap whole
 
-whole-after : {A : Type 0} (e : Exchange A) (xs : List (Message A)) → is_exchange_complete e ≡ true → after_all e xs ≡ e
+whole-after : {A : Type 0} (e : Exchange A) (xs : List (Message A)) → is_exchange_complete e ≡ true → exchange_after_messages e xs ≡ e
 whole-after e [] whole = refl
-whole-after e (x ∷ xs) whole = ap (λ r. after_all r xs) (whole-heard e x.sender x.payload whole) ∙ whole-after e xs whole
+whole-after e (x ∷ xs) whole = ap (λ r. exchange_after_messages r xs) (whole-heard e x.sender x.payload whole) ∙ whole-after e xs whole
 
 -- ---- the exchange as a member keeps it
 
@@ -143,7 +143,7 @@ exchange_drained-by true e x whole =
     ∙ sym (exchange_drained-whole e whole) ∙ ap exchange_drained (sym (whole-heard e x.sender x.payload whole))
 exchange_drained-by false e x whole = refl
 
-drained_exchange_after-exchange_drained : {A : Type 0} (e : Exchange A) (xs : List (Message A)) → drained_exchange_after (exchange_drained e) xs ≡ exchange_drained (after_all e xs)
+drained_exchange_after-exchange_drained : {A : Type 0} (e : Exchange A) (xs : List (Message A)) → drained_exchange_after (exchange_drained e) xs ≡ exchange_drained (exchange_after_messages e xs)
 drained_exchange_after-exchange_drained e [] = refl
 drained_exchange_after-exchange_drained e (x ∷ xs) = ap (λ r. drained_exchange_after r xs) (exchange_drained-by (is_exchange_complete e) e x refl) ∙ drained_exchange_after-exchange_drained (exchange_after_message e x) xs
 
@@ -152,7 +152,7 @@ exchange_drained-nothing true members = refl
 exchange_drained-nothing false members = refl
 
 -- the exchange after all messages, without the bytes and calls that it handed out
-pub drained_exchange_after-after : {A : Type 0} (members : ℕ) (xs : List (Message A)) → drained_exchange_after (exchange_opening members) xs ≡ exchange_drained (after_all (exchange_opening members) xs)
+pub drained_exchange_after-after : {A : Type 0} (members : ℕ) (xs : List (Message A)) → drained_exchange_after (exchange_opening members) xs ≡ exchange_drained (exchange_after_messages (exchange_opening members) xs)
 drained_exchange_after-after {A} members xs =
     ap (λ r. drained_exchange_after r xs) (sym (exchange_drained-nothing (is_exchange_complete (exchange_opening {A = A} members)) members)) ∙ drained_exchange_after-exchange_drained (exchange_opening members) xs
 
@@ -172,12 +172,12 @@ none-step true first second rest more goal none later = absurd (cc none)
 none-step false first second rest more goal none later = later none
 
 pub push-none : {A : Type 0} (e : Exchange A) (xs : List (Message A)) (x : Message A) → complete_exchange_from e xs ≡ None
-    → complete_exchange_from e (xs ++ x ∷ []) ≡ complete_exchange_from (after_all e xs) (x ∷ [])
+    → complete_exchange_from e (xs ++ x ∷ []) ≡ complete_exchange_from (exchange_after_messages e xs) (x ∷ [])
 push-none e [] x none = refl
 push-none e (y ∷ ys) x none =
     none-step (is_exchange_complete (exchange_after_message e y)) (record { exchange = exchange_after_message e y; end = y.number; rest = ys })
     (record { exchange = exchange_after_message e y; end = y.number; rest = ys ++ x ∷ [] })
-    (complete_exchange_from (exchange_after_message e y) ys) (complete_exchange_from (exchange_after_message e y) (ys ++ x ∷ [])) (complete_exchange_from (after_all (exchange_after_message e y) ys) (x ∷ [])) none
+    (complete_exchange_from (exchange_after_message e y) ys) (complete_exchange_from (exchange_after_message e y) (ys ++ x ∷ [])) (complete_exchange_from (exchange_after_messages (exchange_after_message e y) ys) (x ∷ [])) none
     (push-none (exchange_after_message e y) ys x)
 
 some-step : {A : Type 0} (b : Bool) (e : Exchange A) (n : ℕ) (ys : List (Message A)) (x : Message A) (rest more : Option (CompleteExchange A)) (w : CompleteExchange A)
@@ -202,11 +202,11 @@ open-step true first rest G none later = absurd (cc none)
 open-step false first rest G none later = later refl none
 
 -- an exchange that has no end yet isn't complete
-pub none-open : {A : Type 0} (e : Exchange A) (xs : List (Message A)) → is_exchange_complete e ≡ false → complete_exchange_from e xs ≡ None → is_exchange_complete (after_all e xs) ≡ false
+pub none-open : {A : Type 0} (e : Exchange A) (xs : List (Message A)) → is_exchange_complete e ≡ false → complete_exchange_from e xs ≡ None → is_exchange_complete (exchange_after_messages e xs) ≡ false
 none-open e [] open_yet none = open_yet
 none-open e (x ∷ xs) open_yet none =
     open-step (is_exchange_complete (exchange_after_message e x)) (record { exchange = exchange_after_message e x; end = x.number; rest = xs }) (complete_exchange_from (exchange_after_message e x) xs)
-    (is_exchange_complete (after_all (exchange_after_message e x) xs) ≡ false) none
+    (is_exchange_complete (exchange_after_messages (exchange_after_message e x) xs) ≡ false) none
     (none-open (exchange_after_message e x) xs)
 
 whole-step : {A : Type 0} (b : Bool) (first w : CompleteExchange A) (rest : Option (CompleteExchange A)) (G : Type 0) → (if b then Some first else rest) ≡ Some w → (b ≡ true → G)
@@ -214,11 +214,11 @@ whole-step : {A : Type 0} (b : Bool) (first w : CompleteExchange A) (rest : Opti
 whole-step true first w rest G some now later = now refl
 whole-step false first w rest G some now later = later some
 
-pub some-whole : {A : Type 0} (e : Exchange A) (xs : List (Message A)) (w : CompleteExchange A) → complete_exchange_from e xs ≡ Some w → is_exchange_complete (after_all e xs) ≡ true
+pub some-whole : {A : Type 0} (e : Exchange A) (xs : List (Message A)) (w : CompleteExchange A) → complete_exchange_from e xs ≡ Some w → is_exchange_complete (exchange_after_messages e xs) ≡ true
 some-whole e [] w some = absurd (cc some)
 some-whole e (x ∷ xs) w some =
     whole-step (is_exchange_complete (exchange_after_message e x)) (record { exchange = exchange_after_message e x; end = x.number; rest = xs }) w (complete_exchange_from (exchange_after_message e x) xs)
-    (is_exchange_complete (after_all (exchange_after_message e x) xs) ≡ true) some
+    (is_exchange_complete (exchange_after_messages (exchange_after_message e x) xs) ≡ true) some
     (λ whole. ap is_exchange_complete (whole-after (exchange_after_message e x) xs whole) ∙ whole) (some-whole (exchange_after_message e x) xs w)
 
 -- ---- the base that is handed out
@@ -229,16 +229,16 @@ handed-last true e n whole = refl
 handed-last false e n whole = cond-false (is_exchange_complete e) (base_from (wanted e) e.bytes e.received_calls) None whole
 
 handed-at : {A : Type 0} (members : ℕ) (xs : List (Message A)) (x : Message A) (o : Option (CompleteExchange A)) → complete_exchange_from (exchange_opening members) xs ≡ o
-    → base_at (exchange_drained (after_all (exchange_opening members) xs)) x.sender x.payload ≡ base_ending o (complete_exchange_from (exchange_opening members) (xs ++ x ∷ []))
+    → base_at (exchange_drained (exchange_after_messages (exchange_opening members) xs)) x.sender x.payload ≡ base_ending o (complete_exchange_from (exchange_opening members) (xs ++ x ∷ []))
 handed-at {A} members xs x None none =
-    let e = after_all (exchange_opening members) xs in
+    let e = exchange_after_messages (exchange_opening members) xs in
     let not_yet : is_exchange_complete e ≡ false = none-open (exchange_opening members) xs (exchange_opening-open A members) none in
     ap (λ (r : Exchange A). base_at r x.sender x.payload) (exchange_drained-open e not_yet)
     ∙ cond-false (is_exchange_complete e) None (handed_out (exchange_after_message e x)) not_yet
     ∙ handed-last (is_exchange_complete (exchange_after_message e x)) (exchange_after_message e x) x.number refl
     ∙ ap (base_ending None) (sym (push-none (exchange_opening members) xs x none))
 handed-at members xs x (Some w) some =
-    let e = after_all (exchange_opening members) xs in
+    let e = exchange_after_messages (exchange_opening members) xs in
     cond-true (is_exchange_complete (exchange_drained e)) None (handed_out (exchange_after_message (exchange_drained e) x)) (whole-exchange_drained e ∙ some-whole (exchange_opening members) xs w some)
 
 pub handed : {A : Type 0} (group : Group) (members : ℕ) (text : List (Message A)) (x : Message A) → is_primary group members ≡ true
@@ -266,7 +266,7 @@ ends-by : {A : Type 0} (b : Bool) (members : ℕ) (text : List (Message A)) (x :
     → (if b then complete_exchange_from (exchange_opening members) text else None) ≡ None
     → (if b then complete_exchange_from (exchange_opening members) (text ++ x ∷ []) else None) ≡ Some w → (w.end ≡ x.number) × (w.rest ≡ [])
 ends-by true members text x w none some =
-    let e = after_all (exchange_opening members) text in
+    let e = exchange_after_messages (exchange_opening members) text in
     one-end (is_exchange_complete (exchange_after_message e x)) (exchange_after_message e x) x.number w (sym (push-none (exchange_opening members) text x none) ∙ some)
 ends-by false members text x w none some = absurd (cc some)
 

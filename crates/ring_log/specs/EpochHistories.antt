@@ -35,9 +35,9 @@ complete_exchange_from e (x ∷ xs) =
     if is_exchange_complete (exchange_after_message e x) then Some (record { exchange = exchange_after_message e x; end = x.number; rest = xs }) else complete_exchange_from (exchange_after_message e x) xs
 
 -- The exchange after all messages, complete or not.
-abbrev pub after_all : {A : Type 0} → Exchange A → List (Message A) → Exchange A
-after_all e [] = e
-after_all e (x ∷ xs) = after_all (exchange_after_message e x) xs
+abbrev pub exchange_after_messages : {A : Type 0} → Exchange A → List (Message A) → Exchange A
+exchange_after_messages e [] = e
+exchange_after_messages e (x ∷ xs) = exchange_after_messages (exchange_after_message e x) xs
 
 -- The state that a member keeps of the exchange after all messages: the base is handed out when the exchange completes.
 abbrev pub drained_exchange_after : {A : Type 0} → Exchange A → List (Message A) → Exchange A
@@ -112,9 +112,9 @@ has_adopted group (s ∷ older) ring = (same_ring s.ring ring && is_some (comple
 -- Committed places: the longest log that the safe mark of a ring covers, exchange included
 
 -- The messages with numbers up to a mark.
-abbrev pub upto : {A : Type 0} → ℕ → List (Message A) → List (Message A)
-upto mark [] = []
-upto mark (x ∷ xs) = if nat_le x.number mark then x ∷ upto mark xs else []
+abbrev pub messages_upto : {A : Type 0} → ℕ → List (Message A) → List (Message A)
+messages_upto mark [] = []
+messages_upto mark (x ∷ xs) = if nat_le x.number mark then x ∷ messages_upto mark xs else []
 
 -- The longer of two lists; the first if they are equally long.
 abbrev pub longer_list : {X : Type 0} → List X → List X → List X
@@ -141,7 +141,7 @@ abbrev pub committed_of : {A : Type 0} → Group → List (Epoch A) → List (On
 committed_of group [] = []
 committed_of group (s ∷ older) =
     committed_by (log_of group older) s.front (restored_by s.front (committed_of group older) (complete_exchange group s.members s.heard))
-    (complete_exchange group s.members (upto s.mark s.heard))
+    (complete_exchange group s.members (messages_upto s.mark s.heard))
 
 -- The trimmed length: as a step or a restored snapshot set it
 
@@ -220,13 +220,13 @@ is_sound group (s ∷ older) =
 -- it sent its Head
 
 -- A processor's epochs, in which each ring's snapshot places are filled in, by processor and ring number.
-abbrev pub filled : {A : Type 0} → (ℕ → ℕ → List (OneCall A)) → ℕ → List (Epoch A) → List (Epoch A)
-filled fronts p epochs = map (λ (s : Epoch _). record s { front = fronts p s.ring.seq }) epochs
+abbrev pub epochs_with_snapshots : {A : Type 0} → (ℕ → ℕ → List (OneCall A)) → ℕ → List (Epoch A) → List (Epoch A)
+epochs_with_snapshots fronts p epochs = map (λ (s : Epoch _). record s { front = fronts p s.ring.seq }) epochs
 
 -- The places of the snapshot wanted in this ring: the first `at` places of the log that the owner had before the ring.
 abbrev pub front_wanted : {A : Type 0} → Group → (ℕ → List (Epoch A)) → (ℕ → ℕ → List (OneCall A)) → ℕ → Wanted → Option ℕ → List (OneCall A)
 front_wanted group node_epochs fronts number w None = []
-front_wanted group node_epochs fronts number w (Some at) = take at (log_of group (filled fronts w.owner (older_at number (node_epochs w.owner))))
+front_wanted group node_epochs fronts number w (Some at) = take at (log_of group (epochs_with_snapshots fronts w.owner (older_at number (node_epochs w.owner))))
 
 -- The places of the snapshot in this ring; empty if nothing is wanted.
 abbrev pub front_by : {A : Type 0} → Group → (ℕ → List (Epoch A)) → (ℕ → ℕ → List (OneCall A)) → ℕ → Option Wanted → List (OneCall A)
@@ -252,4 +252,4 @@ fronts_below group node_epochs (suc bound) p number =
 
 -- A processor's epochs, with the snapshot places of its rings below a bound filled in.
 abbrev pub whole_epochs : {A : Type 0} → Group → (ℕ → List (Epoch A)) → ℕ → ℕ → List (Epoch A)
-whole_epochs group node_epochs bound p = filled (fronts_below group node_epochs bound) p (node_epochs p)
+whole_epochs group node_epochs bound p = epochs_with_snapshots (fronts_below group node_epochs bound) p (node_epochs p)

@@ -25,13 +25,13 @@ abbrev pub epoch_opening : {A : Type 0} → RingId → ℕ → Epoch A
 epoch_opening ring members = record { ring = ring; members = members; heard = []; mark = 0; sent = []; trimmed = 0; front = [] }
 
 -- The epochs at the opening: the ring of only the node itself.
-abbrev pub epochs_opening : {A : Type 0} → ℕ → List (Epoch A)
-epochs_opening me = epoch_opening (record { seq = 0; rep = me }) (only me) ∷ []
+abbrev pub history_opening_of : {A : Type 0} → ℕ → List (Epoch A)
+history_opening_of me = epoch_opening (record { seq = 0; rep = me }) (only me) ∷ []
 
 -- A number above those of all rings in these epochs.
-abbrev pub above : {A : Type 0} → List (Epoch A) → ℕ
-above [] = 0
-above (s ∷ older) = suc s.ring.seq
+abbrev pub number_above_rings : {A : Type 0} → List (Epoch A) → ℕ
+number_above_rings [] = 0
+number_above_rings (s ∷ older) = suc s.ring.seq
 
 -- Additions to the newest epoch: a message received, a safe mark, payloads handed over, places dropped
 

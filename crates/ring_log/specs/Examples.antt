@@ -14,7 +14,7 @@ use Rattle.ring_log.specs.declared.wanted.Wanted.{Wanted}
 use Rattle.ring_log.specs.Exchanges.{Exchange, exchange_opening, heard}
 use Rattle.ring_log.specs.KnownLog.{KnownLog}
 use Rattle.ring_log.specs.EpochHistories.{CompleteExchange}
-use Rattle.ring_log.specs.Epochs.{Epoch, epoch_opening, epochs_opening, epochs_with_message, epochs_with_mark}
+use Rattle.ring_log.specs.Epochs.{Epoch, epoch_opening, history_opening_of, epochs_with_message, epochs_with_mark}
 
 -- A Head of a log whose last primary has this number and the representative 1.
 abbrev pub head_at : ℕ → ℕ → ℕ → OneHead
@@ -155,7 +155,7 @@ heard_all (x ∷ xs) epochs = heard_all xs (epochs_with_message x epochs)
 
 -- The epochs in ring 1.1: all messages received, with this safe mark.
 abbrev pub first_life : ℕ → List (Epoch Global)
-first_life mark = epochs_with_mark mark (heard_all first_heard (epoch_opening (ring_of 1 1) 7 ∷ epochs_opening 2))
+first_life mark = epochs_with_mark mark (heard_all first_heard (epoch_opening (ring_of 1 1) 7 ∷ history_opening_of 2))
 
 -- The epochs that continue alone, in ring 2.2, where nothing is received.
 abbrev pub alone : List (Epoch Global)

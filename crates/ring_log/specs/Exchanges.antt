@@ -31,22 +31,22 @@ exchange_opening members = record { missing_heads = members; heads = []; receive
 -- places from there on
 
 -- The wanted part of an owner's log, given its Head and the least committed length.
-abbrev pub wanted_of : ℕ → OneHead → ℕ → Wanted
-wanted_of owner head least =
+abbrev pub wanted_from_owner : ℕ → OneHead → ℕ → Wanted
+wanted_from_owner owner head least =
     if nat_lt least head.trimmed
     then record { owner = owner; snapshot = Some head.trimmed; from = head.trimmed; to = head.length }
     else record { owner = owner; snapshot = None; from = least; to = head.length }
 
 -- The owner and the wanted part of its log, given all Heads; none if there is no Head.
-abbrev pub wanted_by : List ReceivedHead → Option Wanted
-wanted_by [] = None
-wanted_by (s ∷ rest) =
+abbrev pub wanted_from_heads : List ReceivedHead → Option Wanted
+wanted_from_heads [] = None
+wanted_from_heads (s ∷ rest) =
     let chosen = chosen_head s rest in
-    Some (wanted_of chosen.sender chosen.head (least_committed s.head.committed rest))
+    Some (wanted_from_owner chosen.sender chosen.head (least_committed s.head.committed rest))
 
 -- The owner and the wanted part of its log in an exchange; none while some member's Head is missing.
 abbrev pub wanted : {A : Type 0} → Exchange A → Option Wanted
-wanted e = if e.missing_heads == nobody then wanted_by e.heads else None
+wanted e = if e.missing_heads == nobody then wanted_from_heads e.heads else None
 
 -- Receiving payloads
 

@@ -1,6 +1,6 @@
 -- A node's knowledge of its log, from its own epochs only. It knows the places after the snapshot that it restored
 -- last, if any, and how many places are committed and dropped. EpochHistories defines the same log from the epochs of
--- all nodes; `kept_law` of ring_log_proof shows that the two agree.
+-- all nodes; `known_log_law` of ring_log_proof shows that the two agree.
 -- Rules: The replicated log 6, 8, 9, 11, 12 and 20
 use Rattle.std.specs.Prelude.{ℕ, ◌+◌, ◌-◌, ◌≤◌, max, Bool, true, ◌&&◌, ◌||◌, nat_le, nat_lt, is_some, if◌then◌else◌, List, [], ◌∷◌, ◌++◌, length, take, drop}
 use Rattle.std.specs.Prelude.{Option, Some, None}
@@ -11,7 +11,7 @@ use Rattle.ring_log.specs.declared.wanted.Wanted.{Wanted}
 use Rattle.ring_log.specs.Exchanges.{wanted}
 use Rattle.ring_log.specs.Logs.{Log, begins, is_log_length}
 use Rattle.ring_log.specs.Epochs.{Epoch}
-use Rattle.ring_log.specs.EpochHistories.{CompleteExchange, complete_exchange, calls_in, upto}
+use Rattle.ring_log.specs.EpochHistories.{CompleteExchange, complete_exchange, calls_in, messages_upto}
 
 -- The places from `from` on; the committed and trimmed lengths, which include the places below `from`; the last
 -- primary; and the snapshot of the places below `from`.
@@ -81,8 +81,8 @@ abbrev pub adopts : {A : Type 0} → KnownLog A → RingId → CompleteExchange 
 adopts k ring whole = adopts_wanted k ring (wanted whole.exchange) whole
 
 -- The committed length rises to n; it never falls.
-abbrev pub raised : {A : Type 0} → ℕ → KnownLog A → KnownLog A
-raised n k = record k { committed = max k.committed n }
+abbrev pub known_log_committed_upto : {A : Type 0} → ℕ → KnownLog A → KnownLog A
+known_log_committed_upto n k = record k { committed = max k.committed n }
 
 -- The length of a ring's log up to its safe mark.
 abbrev pub watermark_by : {A : Type 0} → KnownLog A → Option (CompleteExchange A) → ℕ
@@ -94,14 +94,14 @@ abbrev pub followed_by : {A : Type 0} → KnownLog A → List (OneCall A) → Kn
 followed_by k calls = record k { calls = k.calls ++ calls }
 
 -- The base with the calls after the exchange, and with the committed length that the safe mark gives.
-abbrev pub based_on : {A : Type 0} → KnownLog A → CompleteExchange A → Option (CompleteExchange A) → KnownLog A
-based_on base whole safe = raised (watermark_by base safe) (followed_by base (calls_in whole.rest))
+abbrev pub known_log_after_exchange : {A : Type 0} → KnownLog A → CompleteExchange A → Option (CompleteExchange A) → KnownLog A
+known_log_after_exchange base whole safe = known_log_committed_upto (watermark_by base safe) (followed_by base (calls_in whole.rest))
 
 -- The known log after an epoch, given the exchange in its messages and in its safe ones; unchanged before the first is
 -- complete.
-abbrev pub kept_by : {A : Type 0} → RingId → KnownLog A → Option (CompleteExchange A) → Option (CompleteExchange A) → KnownLog A
-kept_by ring k None safe = k
-kept_by ring k (Some whole) safe = based_on (adopts k ring whole) whole safe
+abbrev pub known_log_after_epoch : {A : Type 0} → RingId → KnownLog A → Option (CompleteExchange A) → Option (CompleteExchange A) → KnownLog A
+known_log_after_epoch ring k None safe = k
+known_log_after_epoch ring k (Some whole) safe = known_log_after_exchange (adopts k ring whole) whole safe
 
 -- The known log after places are dropped at the end of a step; only committed ones are dropped.
 abbrev pub dropped_by : {A : Type 0} → ℕ → KnownLog A → KnownLog A
@@ -111,7 +111,7 @@ dropped_by places k = record k { trimmed = max places k.trimmed }
 abbrev pub known_log_of : {A : Type 0} → Group → List (Epoch A) → KnownLog A
 known_log_of group [] = known_log_opening
 known_log_of group (s ∷ older) =
-    dropped_by s.trimmed (kept_by s.ring (known_log_of group older) (complete_exchange group s.members s.heard) (complete_exchange group s.members (upto s.mark s.heard)))
+    dropped_by s.trimmed (known_log_after_epoch s.ring (known_log_of group older) (complete_exchange group s.members s.heard) (complete_exchange group s.members (messages_upto s.mark s.heard)))
 
 -- The log that the node keeps: without the dropped places.
 abbrev pub retained_log : {A : Type 0} → KnownLog A → Log A

@@ -18,8 +18,8 @@ pub record Log (A : Type 0) : Type 0 where
   pub last : Option RingId
 
 -- The log at the opening.
-abbrev pub empty : {A : Type 0} → Log A
-empty = record { trimmed = 0; calls = []; committed = 0; last = None }
+abbrev pub log_opening : {A : Type 0} → Log A
+log_opening = record { trimmed = 0; calls = []; committed = 0; last = None }
 
 -- The number of places, dropped ones included.
 abbrev pub log_length : {A : Type 0} → Log A → ℕ
@@ -37,8 +37,8 @@ abbrev pub restored_log : {A : Type 0} → Log A → RingId → Base A → Log A
 restored_log log ring base = record { trimmed = base.from; calls = base.calls; committed = base.from; last = Some ring }
 
 -- The kept places below the base's first one, then the base's calls without those of dropped places.
-abbrev pub based : {A : Type 0} → Log A → Base A → List (OneCall A)
-based log base = take (base.from - log.trimmed) log.calls ++ drop (log.trimmed - base.from) base.calls
+abbrev pub calls_after_base : {A : Type 0} → Log A → Base A → List (OneCall A)
+calls_after_base log base = take (base.from - log.trimmed) log.calls ++ drop (log.trimmed - base.from) base.calls
 
 -- A snapshot is restored if the log has fewer committed places than it replaces.
 abbrev pub restores : {A : Type 0} → Log A → Base A → Bool
@@ -46,11 +46,11 @@ restores log base = is_some base.snapshot && nat_lt log.committed base.from
 
 -- The log after a base that doesn't restore it: its own places below the base stay.
 abbrev pub joined_log : {A : Type 0} → Log A → RingId → Base A → Log A
-joined_log log ring base = record log { calls = based log base; last = Some ring }
+joined_log log ring base = record log { calls = calls_after_base log base; last = Some ring }
 
 -- The log after adopting this ring's base.
-abbrev pub adopted : {A : Type 0} → Log A → RingId → Base A → Log A
-adopted log ring base = if restores log base then restored_log log ring base else joined_log log ring base
+abbrev pub log_after_base : {A : Type 0} → Log A → RingId → Base A → Log A
+log_after_base log ring base = if restores log base then restored_log log ring base else joined_log log ring base
 
 -- The log after its committed places are dropped.
 abbrev pub trimmed_log : {A : Type 0} → Log A → Log A
@@ -94,16 +94,16 @@ is_log_length n = nat_le n max_number
 -- result isn't too long. Whether the bytes are a snapshot is checked by the sessions.
 abbrev pub is_adoptable : {A : Type 0} → Log A → Base A → Bool
 is_adoptable log base =
-    (restores log base || (nat_le base.from log.committed && begins (committed_calls log) (based log base)))
+    (restores log base || (nat_le base.from log.committed && begins (committed_calls log) (calls_after_base log base)))
     && is_log_length (base.from + length base.calls)
 
 -- The log after a base, which is adopted if it may be.
-abbrev pub adopted_if : {A : Type 0} → Log A → RingId → Base A → Log A
-adopted_if log ring base = if is_adoptable log base then adopted log ring base else log
+abbrev pub log_after_base_if_may : {A : Type 0} → Log A → RingId → Base A → Log A
+log_after_base_if_may log ring base = if is_adoptable log base then log_after_base log ring base else log
 
 -- The log with these calls appended, if there is room for all of them.
-abbrev pub followed : {A : Type 0} → Log A → List (OneCall A) → Log A
-followed log calls = if is_log_length (log_length log + length calls) then appended log calls else log
+abbrev pub log_with_calls_if_room : {A : Type 0} → Log A → List (OneCall A) → Log A
+log_with_calls_if_room log calls = if is_log_length (log_length log + length calls) then appended log calls else log
 
 -- Invariants
 

@@ -3,7 +3,7 @@
 //! Rules: The replicated log 6
 
 use crate::snapshot::Snapshot;
-use ring_wire::Calls;
+use ring_wire::CallList;
 use std::alloc::{Allocator, Global};
 
 /// The outcome of a ring's exchange: the log that the owner had when it sent its Head.
@@ -21,5 +21,5 @@ pub struct Base<A: Allocator + Copy = Global> {
     /// There is one if the owner had dropped places that some member hasn't committed.
     pub snapshot: Option<Snapshot<A>>,
     /// The calls of the places from `from` on, in order.
-    pub calls: Calls<A>,
+    pub calls: CallList<A>,
 }

@@ -23,7 +23,7 @@ ghost use Rattle.ring_log.specs.EpochHistories.{exchange_end, log_of, last_of, h
 ///
 /// Rules: The replicated log 4 and 5
 /// Formats: chosen head
-pub fn chosen_logs()
+pub fn chosen_head_of_three()
     ensures chosen { wanted longer_but_older ≡ wanted_places 2 0 2 }
 {}
 
@@ -89,7 +89,7 @@ pub fn adopted_snapshot()
 /// the mark are committed. The ring of one isn't primary and changes nothing.
 ///
 /// Rules: The replicated log 12 and 16
-pub fn lived_logs()
+pub fn logs_over_epochs()
     ensures first_end { exchange_end group_of_three 7 first_heard ≡ Some 6 }
     ensures first_log { log_of group_of_three (first_life 6) ≡ calls_from 1 1 }
     ensures agreed { committed_of group_of_three (first_life 6) ≡ [] }

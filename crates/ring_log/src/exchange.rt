@@ -8,12 +8,12 @@ ghost use Rattle.ring_log.specs.Exchanges.{exchange_opening, wanted, heard, hear
 ghost use Rattle.ring_log.specs.Exchanges.{is_wanted, is_exchange_complete, base_at, handed_out, exchange_drained};
 
 use crate::base::Base;
-use crate::heads::wanted_by;
+use crate::heads::wanted_from_heads;
 use crate::received_head::ReceivedHead;
 use crate::snapshot::Snapshot;
 use crate::wanted::Wanted;
 use ring_base::{Fault, Proc, ProcSet};
-use ring_wire::{Call, Calls, Head, MAX_SNAPSHOT, Part, Payload, Snap};
+use ring_wire::{Call, CallList, Head, MAX_SNAPSHOT, Part, Payload, Snap};
 use std::alloc::{AllocError, Allocator, Global};
 use std::marker::Model;
 use std::mem;
@@ -97,7 +97,7 @@ impl<A: Allocator + Copy> Exchange<A> {
         ensures { result ≡ wanted self.now }
     {
         if self.missing_heads.bits() == 0 {
-            wanted_by(self.heads.as_slice())
+            wanted_from_heads(self.heads.as_slice())
         } else {
             None
         }
@@ -162,7 +162,9 @@ impl<A: Allocator + Copy> Exchange<A> {
                 sender,
                 head: *head,
             })?;
-            self.missing_heads = self.missing_heads.less(ProcSet::only(sender));
+            self.missing_heads = self
+                .missing_heads
+                .without_members(ProcSet::singleton(sender));
         }
         Ok(())
     }
@@ -222,7 +224,7 @@ impl<A: Allocator + Copy> Exchange<A> {
         ensures err { OnErr result (self.new ≡ self.old) }
         ensures refused { IfErr result (λ fault. fault ≡ Memory) }
     {
-        if self.is_wanted(sender, part) {
+        if self.is_wanted_part(sender, part) {
             let calls = part.calls.as_slice();
             self.received_calls.extend_from_slice(calls)?;
             self.places += calls.len() as u64;
@@ -231,13 +233,14 @@ impl<A: Allocator + Copy> Exchange<A> {
     }
 
     /// Returns whether a Part is the next wanted one, and no bytes of a wanted snapshot are missing.
-    fn is_wanted(&self, sender: Proc, part: &Part<A>) -> bool
+    fn is_wanted_part(&self, sender: Proc, part: &Part<A>) -> bool
         ensures value { result ≡ is_wanted (wanted self.now) self.now.received_bytes self.now.total self.now.places sender part.now }
         ensures room { result ≡ true → self.now.places + length part.now.calls < 2 ^ 64 }
     {
         match self.wanted() {
             Some(wanted) => {
-                self.has_wanted_snapshot(&wanted) && is_next(&wanted, self.places, sender, part)
+                self.has_wanted_snapshot(&wanted)
+                    && is_next_part(&wanted, self.places, sender, part)
             }
             None => false,
         }
@@ -261,14 +264,19 @@ impl<A: Allocator + Copy> Exchange<A> {
         Some(Base {
             from: wanted.from,
             snapshot,
-            calls: Calls::from_vec(calls),
+            calls: CallList::from_vec(calls),
         })
     }
 }
 
 /// Returns whether a Part comes from the owner, begins where the received places end, and ends within the wanted
 /// places.
-fn is_next<A: Allocator + Copy>(wanted: &Wanted, places: u64, sender: Proc, part: &Part<A>) -> bool
+fn is_next_part<A: Allocator + Copy>(
+    wanted: &Wanted,
+    places: u64,
+    sender: Proc,
+    part: &Part<A>,
+) -> bool
     ensures value { result ≡ is_next wanted.now places sender part.now }
     ensures room { result ≡ true → places + length part.now.calls < 2 ^ 64 }
 {
@@ -276,11 +284,11 @@ fn is_next<A: Allocator + Copy>(wanted: &Wanted, places: u64, sender: Proc, part
         return false;
     }
     let count = part.calls.as_slice().len() as u64;
-    begins_at(wanted, places, part.first) && ends_within(wanted, part.first, count)
+    is_first_missing(wanted, places, part.first) && ends_within(wanted, part.first, count)
 }
 
 /// Returns whether `first` is the place after the first `places` wanted ones.
-fn begins_at(wanted: &Wanted, places: u64, first: u64) -> bool
+fn is_first_missing(wanted: &Wanted, places: u64, first: u64) -> bool
     ensures { result ≡ (first == wanted.now.from + places) }
 {
     wanted.from <= first && first - wanted.from == places

@@ -4,7 +4,7 @@
 
 ghost use Rattle.std.specs.Prelude.{◌≡◌};
 ghost use Rattle.ring_log.specs.Heads.{chosen_head, least_committed};
-ghost use Rattle.ring_log.specs.Exchanges.{wanted_by, wanted_of};
+ghost use Rattle.ring_log.specs.Exchanges.{wanted_from_heads, wanted_from_owner};
 
 use crate::received_head::ReceivedHead;
 use crate::wanted::Wanted;
@@ -14,21 +14,21 @@ use ring_wire::Head;
 /// Returns the owner and the wanted part of its log, given the Heads of all members, or `None` if there is no Head.
 ///
 /// Rules: The replicated log 4 and 5
-pub(crate) fn wanted_by(heads: &[ReceivedHead]) -> Option<Wanted>
-    ensures { result ≡ wanted_by heads.now }
+pub(crate) fn wanted_from_heads(heads: &[ReceivedHead]) -> Option<Wanted>
+    ensures { result ≡ wanted_from_heads heads.now }
 {
     let (first, rest) = heads.split_first()?;
     let chosen = chosen_head(*first, rest);
     let least = least_committed(first.head.committed, rest);
-    Some(wanted_of(chosen.sender, &chosen.head, least))
+    Some(wanted_from_owner(chosen.sender, &chosen.head, least))
 }
 
 /// Returns the wanted part of an owner's log, given its Head and `least`, the least committed length of all Heads.
 ///
 /// These are the places from `least` on. If the owner has dropped some of them, a snapshot of all dropped places is
 /// wanted, and the places after them.
-fn wanted_of(owner: Proc, head: &Head, least: u64) -> Wanted
-    ensures { result ≡ wanted_of owner head.now least }
+fn wanted_from_owner(owner: Proc, head: &Head, least: u64) -> Wanted
+    ensures { result ≡ wanted_from_owner owner head.now least }
 {
     let (snapshot, from) = if least < head.trimmed {
         (Some(head.trimmed), head.trimmed)
@@ -49,7 +49,7 @@ fn chosen_head(first: ReceivedHead, rest: &[ReceivedHead]) -> ReceivedHead
 {
     let mut best = first;
     for received_head in rest {
-        if best.is_behind(received_head) {
+        if best.is_chosen_after(received_head) {
             best = *received_head;
         }
     }

@@ -12,7 +12,7 @@ ghost use Rattle.ring_log.specs.declared.base.Base.{Base};
 ghost use Rattle.ring_log.specs.declared.wanted.Wanted.{Wanted};
 ghost use Rattle.ring_log.specs.Exchanges.{Exchange, exchange_opening, wanted, heard_pieces, base_at, handed_out};
 ghost use Rattle.ring_log.specs.Parts.{pieces_of};
-ghost use Rattle.ring_log.specs.Logs.{Log, empty, followed, adopted_if, trimmed_log, committed_upto, committed_calls, IsLog, KeepsCommitted};
+ghost use Rattle.ring_log.specs.Logs.{Log, log_opening, log_with_calls_if_room, log_after_base_if_may, trimmed_log, committed_upto, committed_calls, IsLog, KeepsCommitted};
 ghost use Rattle.ring_log.specs.EpochHistories.{CompleteExchange, complete_exchange, drained_exchange_after, base_ending, own_base};
 
 use std::alloc::Allocator;
@@ -23,12 +23,12 @@ use std::alloc::Allocator;
 /// with an arbitrary base. Only committed places are dropped. The committed places are always a prefix of the log.
 ///
 /// Rules: The replicated log 6, 12 and 20
-pub fn committed_law<A: Allocator + Copy>()
-    ensures opening { IsLog (empty {A = A}) }
+pub fn log_keeps_committed_law<A: Allocator + Copy>()
+    ensures opening { IsLog (log_opening {A = A}) }
     ensures first { (log : Log A) → IsLog log →
         IsListPrefix (committed_calls log) log.calls × (log.trimmed + length (committed_calls log) ≡ log.committed) }
-    ensures followed { (log : Log A) (calls : List (OneCall A)) → IsLog log → KeepsCommitted log (followed log calls) }
-    ensures adopted { (log : Log A) (ring : RingId) (base : Base A) → IsLog log → KeepsCommitted log (adopted_if log ring base) }
+    ensures followed { (log : Log A) (calls : List (OneCall A)) → IsLog log → KeepsCommitted log (log_with_calls_if_room log calls) }
+    ensures adopted { (log : Log A) (ring : RingId) (base : Base A) → IsLog log → KeepsCommitted log (log_after_base_if_may log ring base) }
     ensures committed { (log : Log A) (n : ℕ) → IsLog log → KeepsCommitted log (committed_upto log n) }
     ensures dropped { (log : Log A) → IsLog log → KeepsCommitted log (trimmed_log log) }
 {}
@@ -41,7 +41,7 @@ pub fn committed_law<A: Allocator + Copy>()
 /// pieces of a wanted snapshot, in their order, give its bytes.
 ///
 /// Rules: The replicated log 3, 4, 6 and 16
-pub fn exchange_law<A: Allocator + Copy>()
+pub fn exchange_base_law<A: Allocator + Copy>()
     ensures handed { (group : Group) (members : ℕ) (text : List (Message A)) (x : Message A) → is_primary group members ≡ true →
         base_at (drained_exchange_after (exchange_opening members) text) x.sender x.payload
         ≡ base_ending (complete_exchange group members text) (complete_exchange group members (text ++ x ∷ [])) }

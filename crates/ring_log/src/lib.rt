@@ -5,7 +5,7 @@
 
 mod adoption;
 mod base;
-mod begins;
+mod call_lists;
 mod examples;
 mod exchange;
 mod heads;
@@ -19,9 +19,11 @@ mod wanted;
 
 pub use adoption::Adoption;
 pub use base::Base;
-pub use examples::{adopted_snapshot, chosen_logs, lived_logs, wanted_parts, wanted_snapshot};
+pub use examples::{
+    adopted_snapshot, chosen_head_of_three, logs_over_epochs, wanted_parts, wanted_snapshot,
+};
 pub use exchange::Exchange;
-pub use laws::{committed_law, exchange_law};
+pub use laws::{exchange_base_law, log_keeps_committed_law};
 pub use log::Log;
 pub use pieces::pieces_of;
 pub use received_head::ReceivedHead;

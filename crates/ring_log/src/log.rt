@@ -6,16 +6,16 @@ ghost use Rattle.std.specs.Prelude.{◌≡◌, ◌≤◌, ◌+◌, ◌&&◌, ◌
 ghost use Rattle.ring_base.specs.declared.fault.Fault.TheVariants.{Memory};
 ghost use Rattle.ring_log.specs.Parts.{parts_between};
 ghost use Rattle.ring_log.specs.Adoptions.{restored_with, adoption};
-ghost use Rattle.ring_log.specs.Logs.{empty, log_length, followed, based, restores, restored_log, joined_log, adopted_if, committed_upto, committed_calls};
+ghost use Rattle.ring_log.specs.Logs.{log_opening, log_length, log_with_calls_if_room, calls_after_base, restores, restored_log, joined_log, log_after_base_if_may, committed_upto, committed_calls};
 ghost use Rattle.ring_log.specs.Logs.{committed_log, trimmed_log, head_of, begins, is_log_length, is_adoptable, is_due_to_trim};
 
 use crate::adoption::Adoption;
 use crate::base::Base;
-use crate::begins::begins;
-use crate::parts::parts_of;
+use crate::call_lists::is_call_prefix;
+use crate::parts::parts_from_calls;
 use crate::wanted::Wanted;
 use ring_base::{Fault, MAX, RingId};
-use ring_wire::{Call, Calls, Head, Part};
+use ring_wire::{Call, CallList, Head, Part};
 use std::alloc::{AllocError, Allocator, Global};
 use std::marker::Model;
 use std::mem;
@@ -67,7 +67,7 @@ impl<A: Allocator + Copy> Log<A> {
     ///
     /// Rules: The replicated log 1
     pub fn new(alloc: A) -> Log<A>
-        ensures { result ≡ empty }
+        ensures { result ≡ log_opening }
     {
         Log {
             trimmed: 0,
@@ -84,11 +84,11 @@ impl<A: Allocator + Copy> Log<A> {
     /// Rules: The replicated log 9, 11 and 19
     pub fn append(&mut self, call: Call<A>) -> Result<bool, Fault>
         ensures fits { IfOk result (λ fits. fits ≡ is_log_length (log_length self.old + 1)) }
-        ensures log { OnOk result (self.new ≡ followed self.old (call ∷ [])) }
+        ensures log { OnOk result (self.new ≡ log_with_calls_if_room self.old (call ∷ [])) }
         ensures err { OnErr result (self.new ≡ self.old) }
         ensures refused { IfErr result (λ fault. fault ≡ Memory) }
     {
-        if !is_length(self.length(), 1) {
+        if !is_within_limit(self.length(), 1) {
             return Ok(false);
         }
         self.calls.push(call)?;
@@ -103,13 +103,13 @@ impl<A: Allocator + Copy> Log<A> {
     /// Errors: `Memory` if an allocation fails; the log is unchanged.
     ///
     /// Rules: The replicated log 9, 11 and 19
-    pub fn append_all(&mut self, calls: &[Call<A>]) -> Result<bool, Fault>
+    pub fn append_all_if_room(&mut self, calls: &[Call<A>]) -> Result<bool, Fault>
         ensures fits { IfOk result (λ fits. fits ≡ is_log_length (log_length self.old + length calls.now)) }
-        ensures log { OnOk result (self.new ≡ followed self.old calls.now) }
+        ensures log { OnOk result (self.new ≡ log_with_calls_if_room self.old calls.now) }
         ensures err { OnErr result (self.new ≡ self.old) }
         ensures refused { IfErr result (λ fault. fault ≡ Memory) }
     {
-        if !is_length(self.length(), calls.len() as u64) {
+        if !is_within_limit(self.length(), calls.len() as u64) {
             return Ok(false);
         }
         self.calls.extend_from_slice(calls)?;
@@ -128,22 +128,22 @@ impl<A: Allocator + Copy> Log<A> {
     /// Rules: The replicated log 6, 8, 9 and 19
     pub fn adopt(&mut self, ring: RingId, base: Base<A>) -> Result<Adoption<A>, Fault>
         ensures how { IfOk result (λ how. how ≡ adoption self.old base) }
-        ensures log { OnOk result (self.new ≡ adopted_if self.old ring base) }
+        ensures log { OnOk result (self.new ≡ log_after_base_if_may self.old ring base) }
         ensures err { OnErr result (self.new ≡ self.old) }
         ensures refused { IfErr result (λ fault. fault ≡ Memory) }
     {
         if !self.may_adopt(&base) {
             return Ok(Adoption::Refused);
         }
-        if self.restores(&base) {
-            return Ok(self.restore(ring, base));
+        if self.is_restored_by(&base) {
+            return Ok(self.restore_from_base(ring, base));
         }
-        self.join(ring, base)?;
+        self.join_base(ring, base)?;
         Ok(Adoption::Joined)
     }
 
     /// Replaces the log with one that begins after the places of the base's snapshot.
-    fn restore(&mut self, ring: RingId, base: Base<A>) -> Adoption<A>
+    fn restore_from_base(&mut self, ring: RingId, base: Base<A>) -> Adoption<A>
         requires short { is_log_length (base.from + length base.calls) ≡ true }
         ensures how { result ≡ restored_with self.old base.snapshot }
         ensures log { self.new ≡ restored_log self.old ring base }
@@ -170,9 +170,9 @@ impl<A: Allocator + Copy> Log<A> {
     ///
     /// Errors: `Memory` if an allocation fails; the log is unchanged.
     #[tactic(auto, using(crate::proofs::Calls::joined_bounds))]
-    fn join(&mut self, ring: RingId, base: Base<A>) -> Result<(), Fault>
+    fn join_base(&mut self, ring: RingId, base: Base<A>) -> Result<(), Fault>
         requires below { base.from ≤ self.old.committed }
-        requires begins { begins (committed_calls self.old) (based self.old base) ≡ true }
+        requires begins { begins (committed_calls self.old) (calls_after_base self.old base) ≡ true }
         requires short { is_log_length (base.from + length base.calls) ≡ true }
         ensures ok { OnOk result (self.new ≡ joined_log self.old ring base) }
         ensures err { OnErr result (self.new ≡ self.old) }
@@ -194,12 +194,12 @@ impl<A: Allocator + Copy> Log<A> {
     pub fn may_adopt(&self, base: &Base<A>) -> bool
         ensures { result ≡ is_adoptable self.now base.now }
     {
-        (self.restores(base) || self.continues_committed(base))
-            && is_length(base.from, base.calls.as_slice().len() as u64)
+        (self.is_restored_by(base) || self.continues_committed(base))
+            && is_within_limit(base.from, base.calls.as_slice().len() as u64)
     }
 
     /// Returns whether a base has a snapshot of more places than are committed.
-    fn restores(&self, base: &Base<A>) -> bool
+    fn is_restored_by(&self, base: &Base<A>) -> bool
         ensures { result ≡ restores self.now base.now }
     {
         base.snapshot.is_some() && self.committed < base.from
@@ -207,16 +207,16 @@ impl<A: Allocator + Copy> Log<A> {
 
     /// Returns whether a base leaves no hole and begins with the committed places that the log has kept.
     fn continues_committed(&self, base: &Base<A>) -> bool
-        ensures { result ≡ nat_le base.now.from self.now.committed && begins (committed_calls self.now) (based self.now base.now) }
+        ensures { result ≡ nat_le base.now.from self.now.committed && begins (committed_calls self.now) (calls_after_base self.now base.now) }
     {
-        base.from <= self.committed && self.begins_with(base)
+        base.from <= self.committed && self.is_continued_by(base)
     }
 
     /// Returns whether a base begins with the committed places that the log has kept.
     ///
     /// Only those from `base.from` on are compared, since the log keeps its own places below that.
-    fn begins_with(&self, base: &Base<A>) -> bool
-        ensures { result ≡ begins (committed_calls self.now) (based self.now base.now) }
+    fn is_continued_by(&self, base: &Base<A>) -> bool
+        ensures { result ≡ begins (committed_calls self.now) (calls_after_base self.now base.now) }
     {
         let trimmed = self.trimmed();
         let committed = self.committed_calls();
@@ -227,7 +227,7 @@ impl<A: Allocator + Copy> Log<A> {
         let dropped = received_calls
             .len()
             .min(trimmed.saturating_sub(base.from) as usize);
-        begins(&committed[same..], &received_calls[dropped..])
+        is_call_prefix(&committed[same..], &received_calls[dropped..])
     }
 
     /// Raises the committed length to `n`, or to the log's length if that is less.
@@ -378,7 +378,7 @@ impl<A: Allocator + Copy> Log<A> {
         if count == 0 {
             return Ok(Vec::new(alloc));
         }
-        parts_of(alloc, wanted.from, &places[..count])
+        parts_from_calls(alloc, wanted.from, &places[..count])
     }
 }
 
@@ -388,7 +388,7 @@ impl<A: Allocator + Copy> Log<A> {
 fn splice_calls<A: Allocator + Copy>(
     own: &mut Vec<Call<A>, A>,
     kept: u64,
-    calls: Calls<A>,
+    calls: CallList<A>,
     left_out: u64,
 ) -> Result<(), Fault>
     ensures ok { OnOk result (own.new.items ≡ take kept own.old.items ++ drop left_out calls) }
@@ -422,7 +422,7 @@ fn split_off_calls<A: Allocator + Copy>(
 }
 
 /// Returns whether `places` + `more` is at most `MAX`, the maximum length of a log.
-fn is_length(places: u64, more: u64) -> bool
+fn is_within_limit(places: u64, more: u64) -> bool
     ensures { result ≡ is_log_length (places + more) }
 {
     places <= MAX && more <= MAX - places

@@ -7,7 +7,7 @@ ghost use Rattle.ring_base.specs.declared.fault.Fault.TheVariants.{Memory};
 ghost use Rattle.ring_log.specs.Parts.{parts_of};
 
 use ring_base::Fault;
-use ring_wire::{Call, Calls, MAX_PART_CALLS, Part};
+use ring_wire::{Call, CallList, MAX_PART_CALLS, Part};
 use std::alloc::Allocator;
 
 /// The number of places in a Part, 7; the last Part may have fewer.
@@ -21,7 +21,7 @@ const CALLS_PER_PART: usize = MAX_PART_CALLS as usize;
 ///
 /// Rules: The replicated log 2
 #[tactic(auto, using(ring_base::proofs::ListPlaces::map_numbers, ring_base::proofs::ListFronts::take_shorter))]
-pub(crate) fn parts_of<A: Allocator + Copy>(
+pub(crate) fn parts_from_calls<A: Allocator + Copy>(
     alloc: A,
     at: u64,
     places: &[Call<A>],
@@ -43,9 +43,9 @@ pub(crate) fn parts_of<A: Allocator + Copy>(
     Ok(parts)
 }
 
-fn copy_calls<A: Allocator + Copy>(alloc: A, calls: &[Call<A>]) -> Result<Calls<A>, Fault>
+fn copy_calls<A: Allocator + Copy>(alloc: A, calls: &[Call<A>]) -> Result<CallList<A>, Fault>
     ensures ok { IfOk result (λ copy. copy ≡ calls.now) }
     ensures refused { IfErr result (λ fault. fault ≡ Memory) }
 {
-    Ok(Calls::from_vec(calls.to_vec(alloc)?))
+    Ok(CallList::from_vec(calls.to_vec(alloc)?))
 }

@@ -8,7 +8,7 @@ ghost use Rattle.ring_wire.specs.Payloads.{max_snapshot};
 ghost use Rattle.ring_log.specs.Parts.{pieces_of};
 
 use ring_base::Fault;
-use ring_wire::{MAX_PIECE_BYTES, Piece, Snap};
+use ring_wire::{MAX_PIECE_BYTES, PieceBytes, Snap};
 use std::alloc::Allocator;
 
 /// The number of bytes in a piece, 7,000; the last piece may have fewer.
@@ -40,7 +40,7 @@ pub fn pieces_of<A: Allocator + Copy>(
             at,
             total: bytes.len() as u32,
             offset: start as u32,
-            bytes: Piece::from_slice(alloc, &rest[..rest.len().min(BYTES_PER_PIECE)])?,
+            bytes: PieceBytes::from_slice(alloc, &rest[..rest.len().min(BYTES_PER_PIECE)])?,
         })?;
     }
     Ok(pieces)

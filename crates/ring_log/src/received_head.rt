@@ -26,7 +26,7 @@ impl ReceivedHead {
     /// then the smaller sender.
     ///
     /// Rules: The replicated log 5
-    pub fn is_behind(&self, other: &ReceivedHead) -> bool
+    pub fn is_chosen_after(&self, other: &ReceivedHead) -> bool
         ensures { result ≡ is_behind self.now other.now }
     {
         let lasts = self.head.last.cmp(&other.head.last);

@@ -9,10 +9,10 @@ use Rattle.ring_log.specs.Messages.{Message}
 use Rattle.ring_log.specs.Logs.{begins, is_log_length}
 use Rattle.ring_log.specs.Exchanges.{wanted}
 use Rattle.ring_log.specs.Epochs.{Epoch}
-use Rattle.ring_log.specs.EpochHistories.{CompleteExchange, complete_exchange, places_below, base_on, own_base, log_by, log_of, upto, longer_list, committed_by, front_on, restored_by}
+use Rattle.ring_log.specs.EpochHistories.{CompleteExchange, complete_exchange, places_below, base_on, own_base, log_by, log_of, messages_upto, longer_list, committed_by, front_on, restored_by}
 use Rattle.ring_log.specs.EpochHistories.{committed_of, is_known_on, keeps_committed, is_sound}
 use Rattle.ring_log.specs.declared.wanted.Wanted.{Wanted}
-use Rattle.ring_log_proof.specs.Time.{IsEpochExtended}
+use Rattle.ring_log_proof.specs.EpochEvents.{IsEpochExtended}
 use Rattle.ring_log_proof.proofs.CompleteExchanges.{upto-front, grown, complete_exchange-front, log_on, base-front, grown-front}
 use Rattle.ring_log_proof.proofs.CallPrefixes.{front_begins}
 use Rattle.ring_log_proof.proofs.SettledGrows.{committed-longer_list, committed-refronted}
@@ -118,7 +118,7 @@ committed_front group [] h = ([], refl)
 committed_front group (s ∷ older) h =
     let p = sound_stay group s older h in
     stay_within group s.members (log_of group older) s.front (committed_of group older) s.heard p.keeps (committed_front group older p.older_sound)
-    (upto s.mark s.heard) (upto-front s.mark s.heard) _ _ refl refl
+    (messages_upto s.mark s.heard) (upto-front s.mark s.heard) _ _ refl refl
 
 -- the newest epoch was extended: what was committed there before is in its present log, and is no longer than what is committed
 -- now
@@ -136,10 +136,10 @@ module _ {A : Type 0} (group : Group) (s t : Epoch A) (older : List (Epoch A)) (
   before_within : IsListPrefix (committed_of group (s ∷ older)) (log_of group (t ∷ older))
   before_within =
       let p = sound_stay group t older h in
-      let safe = prefix_trans (upto s.mark s.heard) s.heard t.heard (upto-front s.mark s.heard) g.heard in
+      let safe = prefix_trans (messages_upto s.mark s.heard) s.heard t.heard (upto-front s.mark s.heard) g.heard in
       let own = log_of group older in
       let old = committed_of group older in
-      let whole = complete_exchange group t.members (upto s.mark s.heard) in
+      let whole = complete_exchange group t.members (messages_upto s.mark s.heard) in
       let restored = restored_before t.members t.front (complete_exchange group t.members s.heard) refl p.keeps in
       let within : IsListPrefix (restored_by t.front old (complete_exchange group t.members t.heard)) (log_of group (t ∷ older)) =
       stay_within group t.members own t.front old t.heard p.keeps (committed_front group older p.older_sound) [] (t.heard, refl) None _
@@ -149,7 +149,7 @@ module _ {A : Type 0} (group : Group) (s t : Epoch A) (older : List (Epoch A)) (
       let now : IsListPrefix (committed_by own t.front (restored_by t.front old (complete_exchange group t.members s.heard)) whole) (log_of group (t ∷ older)) =
       by_safe p.keeps safe first whole refl in
       let safe_log : ℕ → List (Call A) → List (Call A) = λ m front.
-      committed_by own front (restored_by front old (complete_exchange group m s.heard)) (complete_exchange group m (upto s.mark s.heard)) in
+      committed_by own front (restored_by front old (complete_exchange group m s.heard)) (complete_exchange group m (messages_upto s.mark s.heard)) in
       subst (λ calls. IsListPrefix calls (log_of group (t ∷ older))) (sym (committed-refronted group s t older g))
       (subst (λ m. IsListPrefix (safe_log m t.front) (log_of group (t ∷ older))) (sym g.members) now)
     where
@@ -157,15 +157,15 @@ module _ {A : Type 0} (group : Group) (s t : Epoch A) (older : List (Epoch A)) (
       none_of m = cond_both (is_primary group m) None None (λ (o : Option (CompleteExchange A)). o ≡ None) (λ t. refl) (λ f. refl)
 
       by_safe : keeps_committed (log_of group older) t.front (committed_of group older) (complete_exchange group t.members t.heard) ≡ true
-          → (f : IsListPrefix (upto s.mark s.heard) t.heard)
+          → (f : IsListPrefix (messages_upto s.mark s.heard) t.heard)
           → IsListPrefix (restored_by t.front (committed_of group older) (complete_exchange group t.members s.heard)) (log_of group (t ∷ older))
-          → (o : Option (CompleteExchange A)) → complete_exchange group t.members (upto s.mark s.heard) ≡ o
+          → (o : Option (CompleteExchange A)) → complete_exchange group t.members (messages_upto s.mark s.heard) ≡ o
           → IsListPrefix (committed_by (log_of group older) t.front (restored_by t.front (committed_of group older) (complete_exchange group t.members s.heard)) o)
           (log_of group (t ∷ older))
       by_safe k f first None e = first
       by_safe k f first (Some w) e =
           let base = own_base (log_of group older) t.front in
-          let there : complete_exchange group t.members t.heard ≡ Some (grown w f.0) = complete_exchange-front group t.members (upto s.mark s.heard) t.heard w e f in
+          let there : complete_exchange group t.members t.heard ≡ Some (grown w f.0) = complete_exchange-front group t.members (messages_upto s.mark s.heard) t.heard w e f in
           longer_front (restored_by t.front (committed_of group older) (complete_exchange group t.members s.heard)) (log_on base w) (log_of group (t ∷ older)) first
           (subst (λ o. IsListPrefix (log_on base w) (log_by (log_of group older) t.front o)) (sym there) (grown-front base w f.0))
 

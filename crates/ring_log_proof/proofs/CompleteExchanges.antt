@@ -10,10 +10,10 @@ use Rattle.ring_base.specs.Group.{Group, IsPrimary, is_primary}
 use Rattle.ring_base.specs.Primaries.{primary_tested}
 use Rattle.ring_base.proofs.ListFronts.{front-either}
 use Rattle.ring_payload.specs.declared.call.Call.{Call as OneCall}
-use Rattle.ring_payload.specs.Kinds.{calls_of}
+use Rattle.ring_payload.specs.PayloadKinds.{calls_of}
 use Rattle.ring_log.specs.Messages.{Message}
 use Rattle.ring_log.specs.Exchanges.{Exchange, exchange_opening, is_exchange_complete}
-use Rattle.ring_log.specs.EpochHistories.{CompleteExchange, exchange_after_message, complete_exchange_from, after_all, complete_exchange, calls_in, upto}
+use Rattle.ring_log.specs.EpochHistories.{CompleteExchange, exchange_after_message, complete_exchange_from, exchange_after_messages, complete_exchange, calls_in, messages_upto}
 
 -- the same exchange, with more messages after it
 abbrev pub grown : {A : Type 0} → CompleteExchange A → List (Message A) → CompleteExchange A
@@ -23,7 +23,7 @@ grown w more = record { exchange = w.exchange; end = w.end; rest = w.rest ++ mor
 pub record WholeBy {A : Type 0} (e : Exchange A) (xs : List (Message A)) (w : CompleteExchange A) : Type 0 where
   pub front : List (Message A)
   pub parts : front ++ w.rest ≡ xs
-  pub after : w.exchange ≡ after_all e front
+  pub after : w.exchange ≡ exchange_after_messages e front
   pub whole : is_exchange_complete w.exchange ≡ true
 
 pub whole_by : {A : Type 0} (e : Exchange A) (xs : List (Message A)) (w : CompleteExchange A) → complete_exchange_from e xs ≡ Some w → WholeBy e xs w
@@ -134,8 +134,8 @@ logs-either base group m xs ys text v w hv hw fx fy =
     (log-front base group m xs text v (grown v fx.0) hv there fx) (log-front base group m ys text w (grown v fx.0) hw there fy)
 
 -- the messages up to a number are a prefix of all messages
-pub upto-front : {A : Type 0} (mark : ℕ) (xs : List (Message A)) → IsListPrefix (upto mark xs) xs
+pub upto-front : {A : Type 0} (mark : ℕ) (xs : List (Message A)) → IsListPrefix (messages_upto mark xs) xs
 upto-front mark [] = ([], refl)
 upto-front mark (x ∷ xs) =
-    cond_both (nat_le x.number mark) (x ∷ upto mark xs) [] (λ l. IsListPrefix l (x ∷ xs))
+    cond_both (nat_le x.number mark) (x ∷ messages_upto mark xs) [] (λ l. IsListPrefix l (x ∷ xs))
     (λ t. (let f = upto-front mark xs in (f.0, ap (λ l. x ∷ l) f.1))) (λ f. (x ∷ xs, refl))

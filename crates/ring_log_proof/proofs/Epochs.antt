@@ -3,7 +3,7 @@ use Rattle.std.proofs.Common.{◌≡◌, ℕ, ◌≤◌, ◌<◌, ◌==◌, true
 use Rattle.std.specs.List.{AllByRecursion as Each}
 use Rattle.std.proofs.lemmas.Bool.{cond_both, eqb-true, eq-eqb}
 use Rattle.ring_base.specs.declared.ring_id.RingId.{RingId}
-use Rattle.ring_log.specs.Epochs.{Epoch, above}
+use Rattle.ring_log.specs.Epochs.{Epoch, number_above_rings}
 use Rattle.ring_log.specs.EpochHistories.{older_at}
 use Rattle.ring_log_proof.specs.RingFacts.{HasEpoch, EpochIn, Rises}
 
@@ -96,7 +96,7 @@ epochs-behind epochs r rises at = record {
 
 -- A number above a life's rings
 
-pub below-above : {A : Type 0} (epochs : List (Epoch A)) (bound : ℕ) → Rises epochs → above epochs ≤ bound → (s : Epoch A) (older : List (Epoch A))
+pub below-above : {A : Type 0} (epochs : List (Epoch A)) (bound : ℕ) → Rises epochs → number_above_rings epochs ≤ bound → (s : Epoch A) (older : List (Epoch A))
     → HasEpoch epochs s older → s.ring.seq < bound
 below-above [] bound rises le s older h = absurd h
 below-above (t ∷ before) bound rises le s older (inl e) = omega (arith, le, seq-same e.0)

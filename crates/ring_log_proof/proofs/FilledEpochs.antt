@@ -16,11 +16,11 @@ use Rattle.ring_log.specs.Messages.{Message}
 use Rattle.ring_log.specs.declared.wanted.Wanted.{Wanted}
 use Rattle.ring_log.specs.Exchanges.{exchange_opening, wanted}
 use Rattle.ring_log.specs.Epochs.{Epoch}
-use Rattle.ring_log.specs.KnownLog.{KnownLog, kept_by, dropped_by, known_log_of, known_log_head}
-use Rattle.ring_log.specs.EpochHistories.{CompleteExchange, complete_exchange_from, complete_exchange, log_of, upto, older_at, filled, front_wanted, front_by, front_after, fronts_below, whole_epochs}
+use Rattle.ring_log.specs.KnownLog.{KnownLog, known_log_after_epoch, dropped_by, known_log_of, known_log_head}
+use Rattle.ring_log.specs.EpochHistories.{CompleteExchange, complete_exchange_from, complete_exchange, log_of, messages_upto, older_at, epochs_with_snapshots, front_wanted, front_by, front_after, fronts_below, whole_epochs}
 use Rattle.ring_log_proof.specs.RingFacts.{HasEpoch, EpochIn, Rises, AreAbove, payloads_from, safe_part, IsReceivedByAll, RingFacts}
 use Rattle.ring_log_proof.specs.Discipline.{FollowsHead, OpensWithHead, KeepsDiscipline, DropsCommitted, KeepsRules}
-use Rattle.ring_log_proof.specs.Time.{IsEpochExtended, IsEpochsExtended}
+use Rattle.ring_log_proof.specs.EpochEvents.{IsEpochExtended, IsEpochsExtended}
 use Rattle.ring_log_proof.proofs.Epochs.{epoch-trans, older-below, older-in}
 use Rattle.ring_log_proof.proofs.CompleteExchanges.{grown, whole-front}
 use Rattle.ring_log_proof.proofs.Prefixes.{fill, filled-epoch, filled-same, front-stable, front-of, fronts-stand}
@@ -32,39 +32,39 @@ use Rattle.ring_log_proof.proofs.SettledGrows.{epoch-behind, still-there}
 
 module _ {A : Type 0} (fronts : ℕ → ℕ → List (OneCall A)) (p : ℕ) where
   pub filled-there : (epochs : List (Epoch A)) (s : Epoch A) (older : List (Epoch A)) → HasEpoch epochs s older
-      → HasEpoch (filled fronts p epochs) (fill fronts p s) (filled fronts p older)
+      → HasEpoch (epochs_with_snapshots fronts p epochs) (fill fronts p s) (epochs_with_snapshots fronts p older)
   filled-there [] s older i = absurd i
-  filled-there (t ∷ before) s older (inl e) = inl (ap (fill fronts p) e.0, ap (filled fronts p) e.1)
+  filled-there (t ∷ before) s older (inl e) = inl (ap (fill fronts p) e.0, ap (epochs_with_snapshots fronts p) e.1)
   filled-there (t ∷ before) s older (inr i) = inr (filled-there before s older i)
 
   -- the node's known log is the same
-  pub kept-filled : (group : Group) (epochs : List (Epoch A)) → known_log_of group (filled fronts p epochs) ≡ known_log_of group epochs
+  pub kept-filled : (group : Group) (epochs : List (Epoch A)) → known_log_of group (epochs_with_snapshots fronts p epochs) ≡ known_log_of group epochs
   kept-filled group [] = refl
   kept-filled group (s ∷ older) =
-      ap (λ (k : KnownLog A). dropped_by s.trimmed (kept_by s.ring k (complete_exchange group s.members s.heard) (complete_exchange group s.members (upto s.mark s.heard))))
+      ap (λ (k : KnownLog A). dropped_by s.trimmed (known_log_after_epoch s.ring k (complete_exchange group s.members s.heard) (complete_exchange group s.members (messages_upto s.mark s.heard))))
       (kept-filled group older)
 
-  filled-rises : (epochs : List (Epoch A)) → Rises epochs → Rises (filled fronts p epochs)
+  filled-rises : (epochs : List (Epoch A)) → Rises epochs → Rises (epochs_with_snapshots fronts p epochs)
   filled-rises [] r = tt
   filled-rises (s ∷ older) r = (each-map (λ (t : Epoch A). t.ring.seq < s.ring.seq) (fill fronts p) older r.0, filled-rises older r.1)
 
-  abbrev pub filled-in : (epochs : List (Epoch A)) (r : RingId) → EpochIn epochs r → EpochIn (filled fronts p epochs) r
+  abbrev pub filled-in : (epochs : List (Epoch A)) (r : RingId) → EpochIn epochs r → EpochIn (epochs_with_snapshots fronts p epochs) r
   filled-in epochs r at = record {
     epoch = fill fronts p at.epoch;
-    older = filled fronts p at.older;
+    older = epochs_with_snapshots fronts p at.older;
     there = filled-there epochs at.epoch at.older at.there;
     ring = at.ring;
   }
 
   -- a property of an epoch and the life before it that doesn't depend on snapshot places
   filled-each : (epochs : List (Epoch A)) (P : Epoch A → List (Epoch A) → Type 0)
-      → ((s : Epoch A) (older : List (Epoch A)) → HasEpoch epochs s older → P (fill fronts p s) (filled fronts p older))
-      → (t : Epoch A) (before : List (Epoch A)) → HasEpoch (filled fronts p epochs) t before → P t before
+      → ((s : Epoch A) (older : List (Epoch A)) → HasEpoch epochs s older → P (fill fronts p s) (epochs_with_snapshots fronts p older))
+      → (t : Epoch A) (before : List (Epoch A)) → HasEpoch (epochs_with_snapshots fronts p epochs) t before → P t before
   filled-each epochs P h t before i =
       let f = filled-epoch fronts p epochs t before i in
       subst (λ (u : Epoch A). P u before) f.stay_is (subst (P (fill fronts p f.epoch)) f.older_is (h f.epoch f.older f.there))
 
-  own-in : (epochs : List (Epoch A)) (r : RingId) → EpochIn (filled fronts p epochs) r → EpochIn epochs r
+  own-in : (epochs : List (Epoch A)) (r : RingId) → EpochIn (epochs_with_snapshots fronts p epochs) r → EpochIn epochs r
   own-in epochs r at =
       let f = filled-epoch fronts p epochs at.epoch at.older at.there in
       record { epoch = f.epoch; older = f.older; there = f.there; ring = ap (λ (u : Epoch A). u.ring) f.stay_is ∙ at.ring }
@@ -73,7 +73,7 @@ module _ {A : Type 0} (fronts : ℕ → ℕ → List (OneCall A)) (p : ℕ) wher
 
 module _ {A : Type 0} (node_epochs : ℕ → List (Epoch A)) (fronts : ℕ → ℕ → ℕ → List (OneCall A)) where
   abbrev Filled : ℕ → List (Epoch A)
-  Filled p = filled (fronts p) p (node_epochs p)
+  Filled p = epochs_with_snapshots (fronts p) p (node_epochs p)
 
   pub filled-heard : (r : RingId) (m : ℕ) (xs : List (Message A)) → IsReceivedByAll node_epochs r m xs → IsReceivedByAll Filled r m xs
   filled-heard r m xs h p i = (filled-in (fronts p) p (node_epochs p) r (h p i).0, (h p i).1)
@@ -101,7 +101,7 @@ module _ {A : Type 0} (node_epochs : ℕ → List (Epoch A)) (fronts : ℕ → �
   pub epochs_with_sends-filled : (group : Group) → KeepsDiscipline group node_epochs → KeepsDiscipline group Filled
   epochs_with_sends-filled group epochs_with_sends p = filled-each (fronts p) p (node_epochs p) (λ s older. (s.sent ≡ []) ⊎ OpensWithHead group s older) (λ s older i.
       let same = sym (kept-filled (fronts p) p group older) in
-      elim (epochs_with_sends p s older i) as (λ _. (s.sent ≡ []) ⊎ OpensWithHead group (fill (fronts p) p s) (filled (fronts p) p older)) [
+      elim (epochs_with_sends p s older i) as (λ _. (s.sent ≡ []) ⊎ OpensWithHead group (fill (fronts p) p s) (epochs_with_snapshots (fronts p) p older)) [
         | inl none ↦ inl none
         | inr h ↦ inr (record {
           primary = h.primary;
@@ -179,7 +179,7 @@ module _ {A : Type 0} (group : Group) (node_epochs : ℕ → List (Epoch A)) (bo
               let later : EpochIn (after q) s.ring = record { epoch = now.epoch; older = own.older; there = now.there; ring = sym now.grows.ring ∙ own.ring } in
               let was : older_at n (node_epochs q) ≡ own.older = older-in (node_epochs q) s.ring (facts.rises q) own in
               let is : older_at n (after q) ≡ own.older = older-in (after q) s.ring (rises' q) later in
-              let same : filled (f node_epochs) q own.older ≡ filled (f after) q own.older =
+              let same : epochs_with_snapshots (f node_epochs) q own.older ≡ epochs_with_snapshots (f after) q own.older =
               filled-same (f node_epochs) (f after) q own.older (λ u before j.
               let number : own.epoch.ring.seq ≡ n = ap (λ (r : RingId). r.seq) own.ring in
               let less = older-below (node_epochs q) own.epoch u own.older before (facts.rises q) own.there j in
@@ -188,8 +188,8 @@ module _ {A : Type 0} (group : Group) (node_epochs : ℕ → List (Epoch A)) (bo
               ∙ below q u before (epoch-trans (node_epochs q) own.epoch u own.older before own.there j)
               (epoch-trans (after q) now.epoch u own.older before now.there j) low
               ∙ sym (front-stable group after rises' n q u.ring.seq low)) in
-              ap (λ l. take at (log_of group (filled (f node_epochs) q l))) was ∙ ap (λ l. take at (log_of group l)) same
-              ∙ sym (ap (λ l. take at (log_of group (filled (f after) q l))) is)
+              ap (λ l. take at (log_of group (epochs_with_snapshots (f node_epochs) q l))) was ∙ ap (λ l. take at (log_of group l)) same
+              ∙ sym (ap (λ l. take at (log_of group (epochs_with_snapshots (f after) q l))) is)
 
           by : (o : Option Wanted) → wanted whole.exchange ≡ o → front_by group node_epochs (f node_epochs) n o ≡ front_by group after (f after) n o
           by None wants = refl
@@ -252,8 +252,8 @@ module _ {A : Type 0} (group : Group) (node_epochs : ℕ → List (Epoch A)) (bo
                 ∙ front-same p s older w i some (λ q u before k l less. left-same n q u before k l less)
                 ∙ sym (ap (front_after group after (fronts_below group after n) n) more)
 
-        filled-append : (p : ℕ) (newer epochs : List (Epoch A)) → filled (fronts_below group after (bounds' p)) p (newer ++ epochs)
-            ≡ filled (fronts_below group after (bounds' p)) p newer ++ filled (fronts_below group after (bounds' p)) p epochs
+        filled-append : (p : ℕ) (newer epochs : List (Epoch A)) → epochs_with_snapshots (fronts_below group after (bounds' p)) p (newer ++ epochs)
+            ≡ epochs_with_snapshots (fronts_below group after (bounds' p)) p newer ++ epochs_with_snapshots (fronts_below group after (bounds' p)) p epochs
         filled-append p [] epochs = refl
         filled-append p (s ∷ newer) epochs = ap (λ l. fill (fronts_below group after (bounds' p)) p s ∷ l) (filled-append p newer epochs)
 
@@ -267,21 +267,21 @@ module _ {A : Type 0} (group : Group) (node_epochs : ℕ → List (Epoch A)) (bo
             later : ℕ → ℕ → List (OneCall A)
             later = fronts_below group after (bounds' p)
 
-            by : (epochs : List (Epoch A)) → node_epochs p ≡ epochs → IsEpochsExtended epochs (after p) → IsEpochsExtended (filled before p epochs) (filled later p (after p))
+            by : (epochs : List (Epoch A)) → node_epochs p ≡ epochs → IsEpochsExtended epochs (after p) → IsEpochsExtended (epochs_with_snapshots before p epochs) (epochs_with_snapshots later p (after p))
             by [] e h = tt
             by (s ∷ older) e h =
                 let t = h.1 in
                 let i : HasEpoch (node_epochs p) s older = subst (λ (l : List (Epoch A)). HasEpoch l s older) (sym e) (inl (refl, refl)) in
                 let j : HasEpoch (after p) t older =
                 subst (λ (l : List (Epoch A)). HasEpoch l t older) (sym h.2) (epoch-behind h.0 (t ∷ older) t older (inl (refl, refl))) in
-                let same : filled later p older ≡ filled before p older =
+                let same : epochs_with_snapshots later p older ≡ epochs_with_snapshots before p older =
                 filled-same later before p older (λ u behind k.
                 let there = epoch-trans (node_epochs p) s u older behind i k in
                 let still = epoch-trans (after p) t u older behind j k in
                 is-told p u behind still ∙ sym (left-same (bounds p) p u behind there still (above p u behind there)) ∙ sym (was-told p u behind there)) in (
-                  filled later p h.0,
+                  epochs_with_snapshots later p h.0,
                   fill later p t,
-                  ap (filled later p) h.2 ∙ filled-append p h.0 (t ∷ older) ∙ ap (λ l. filled later p h.0 ++ fill later p t ∷ l) same,
+                  ap (epochs_with_snapshots later p) h.2 ∙ filled-append p h.0 (t ∷ older) ∙ ap (λ l. epochs_with_snapshots later p h.0 ++ fill later p t ∷ l) same,
                   record {
                     ring = h.3.ring;
                     members = h.3.members;

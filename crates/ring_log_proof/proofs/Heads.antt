@@ -14,7 +14,7 @@ use Rattle.ring_payload.specs.declared.calls.Part.{Part as OnePart}
 use Rattle.ring_payload.specs.declared.head.Head.{Head as OneHead}
 use Rattle.ring_payload.specs.declared.content.Payload.{Payload}
 use Rattle.ring_payload.specs.declared.content.Payload.TheVariants.{Call, Wrapped, End, Head, Part, Pack, Snap}
-use Rattle.ring_payload.specs.Kinds.{unpacked_payloads}
+use Rattle.ring_payload.specs.PayloadKinds.{unpacked_payloads}
 use Rattle.ring_log.specs.Messages.{Message}
 use Rattle.ring_log.specs.Exchanges.{exchange_opening}
 use Rattle.ring_log.specs.Epochs.{Epoch}

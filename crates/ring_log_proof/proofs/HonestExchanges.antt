@@ -20,9 +20,9 @@ use Rattle.ring_log.specs.Messages.{Message}
 use Rattle.ring_log.specs.declared.received_head.ReceivedHead.{ReceivedHead}
 use Rattle.ring_log.specs.declared.wanted.Wanted.{Wanted}
 use Rattle.ring_log.specs.Heads.{chosen_head, least_committed}
-use Rattle.ring_log.specs.Exchanges.{Exchange, exchange_opening, wanted_of, wanted_by, wanted, hear_head, has_wanted_snapshot, is_next_piece, hear_snap, is_next, is_wanted}
+use Rattle.ring_log.specs.Exchanges.{Exchange, exchange_opening, wanted_from_owner, wanted_from_heads, wanted, hear_head, has_wanted_snapshot, is_next_piece, hear_snap, is_next, is_wanted}
 use Rattle.ring_log.specs.Exchanges.{hear_part, heard, has_all_wanted, is_exchange_complete}
-use Rattle.ring_log.specs.EpochHistories.{exchange_after_message, after_all}
+use Rattle.ring_log.specs.EpochHistories.{exchange_after_message, exchange_after_messages}
 use Rattle.ring_log.proofs.WholeExchanges.{wants_nothing}
 use Rattle.ring_log_proof.proofs.ChosenHead.{IsNoLess, chosen-is, chosen-greatest, least-first, least-each}
 
@@ -151,7 +151,7 @@ module _ {A : Type 0} (Says : ℕ → OneHead → Type 0) (logs : ℕ → List (
   epochs_with_message-payload e p End honest k = k
 
   pub epochs_with_message-all : (e : Exchange A) (xs : List (Message A)) → Each (λ (x : Message A). IsHonest Says logs x.sender x.payload) xs → Hears e
-      → Hears (after_all e xs)
+      → Hears (exchange_after_messages e xs)
   epochs_with_message-all e [] honest k = k
   epochs_with_message-all e (x ∷ xs) honest k = epochs_with_message-all (exchange_after_message e x) xs honest.1 (epochs_with_message-payload e x.sender x.payload honest.0 k)
 
@@ -199,7 +199,7 @@ module _ {A : Type 0} (Says : ℕ → OneHead → Type 0) (logs : ℕ → List (
     plain : w.snapshot ≡ None → w.from ≡ least
     snapped : (at : ℕ) → w.snapshot ≡ Some at → (at ≡ w.from) × (h.trimmed ≡ w.from)
 
-  asks : (owner least : ℕ) (h : OneHead) → Asks owner least h (wanted_of owner h least)
+  asks : (owner least : ℕ) (h : OneHead) → Asks owner least h (wanted_from_owner owner h least)
   asks owner least h =
       cond_both (nat_lt least h.trimmed) (record { owner = owner; snapshot = Some h.trimmed; from = h.trimmed; to = h.length })
       (record { owner = owner; snapshot = None; from = least; to = h.length }) (Asks owner least h)
@@ -207,7 +207,7 @@ module _ {A : Type 0} (Says : ℕ → OneHead → Type 0) (logs : ℕ → List (
       (λ f. record { owner_is = refl; to_is = refl; plain = λ e. refl; snapped = λ at e. absurd (cc e) })
 
   outcome-by : (e : Exchange A) (heads : List ReceivedHead) (w : Wanted) → e.heads ≡ heads
-      → Hears e → e.missing_heads ≡ nobody → wanted e ≡ Some w → wanted_by heads ≡ Some w → w.to ≤ w.from + e.places → Outcome e
+      → Hears e → e.missing_heads ≡ nobody → wanted e ≡ Some w → wanted_from_heads heads ≡ Some w → w.to ≤ w.from + e.places → Outcome e
   outcome-by e [] w is k none wants by full = absurd (cc by)
   outcome-by e (s ∷ rest) w is k none wants by full =
       let chosen = chosen_head s rest in
@@ -215,7 +215,7 @@ module _ {A : Type 0} (Says : ℕ → OneHead → Type 0) (logs : ℕ → List (
       let brings : Brings Says logs (Some w) e.places e.received_calls = subst (λ o. Brings Says logs o e.places e.received_calls) wants k.brings in
       let says : Each (λ (x : ReceivedHead). Says x.sender x.head) (s ∷ rest) = subst (Each (λ (x : ReceivedHead). Says x.sender x.head)) is k.heads in
       let received_head = chosen-is (λ (x : ReceivedHead). Says x.sender x.head) s rest says.0 says.1 in
-      let told : wanted_of chosen.sender chosen.head least ≡ w = cc by in
+      let told : wanted_from_owner chosen.sender chosen.head least ≡ w = cc by in
       let asked : Asks chosen.sender least chosen.head w = subst (Asks chosen.sender least chosen.head) told (asks chosen.sender least chosen.head) in
       let Low : ReceivedHead → Type 0 = λ x. w.snapshot ≡ None → w.from ≤ x.head.committed in
       let low : Each Low (s ∷ rest) = each-weaker (λ (x : ReceivedHead). least ≤ x.head.committed) Low (λ x h plain. omega (arith, h, asked.plain plain)) (s ∷ rest)
@@ -251,5 +251,5 @@ module _ {A : Type 0} (Says : ℕ → OneHead → Type 0) (logs : ℕ → List (
   pub whole-outcome : (e : Exchange A) → Hears e → is_exchange_complete e ≡ true → Outcome e
   whole-outcome e k t =
       let some = received_calls-some (wanted e) e.received_bytes e.total e.places t in
-      let when = wanted-when e.missing_heads (wanted_by e.heads) some.0 some.1 in
+      let when = wanted-when e.missing_heads (wanted_from_heads e.heads) some.0 some.1 in
       outcome-by e e.heads some.0 refl k when.0 some.1 when.1 some.2

@@ -16,15 +16,15 @@ use Rattle.ring_payload.specs.declared.head.Head.{Head as OneHead}
 use Rattle.ring_payload.specs.declared.snap.Snap.{Snap as OneSnap}
 use Rattle.ring_payload.specs.declared.content.Payload.{Payload}
 use Rattle.ring_payload.specs.declared.content.Payload.TheVariants.{Call, Wrapped, End, Head, Part, Pack, Snap}
-use Rattle.ring_payload.specs.Kinds.{unpacked_payloads, calls_of}
+use Rattle.ring_payload.specs.PayloadKinds.{unpacked_payloads, calls_of}
 use Rattle.ring_log.specs.Messages.{Message}
 use Rattle.ring_log.specs.declared.wanted.Wanted.{Wanted}
 use Rattle.ring_log.specs.Exchanges.{Exchange, exchange_opening, wanted, hear_head, is_next_piece, hear_snap, is_wanted, hear_part, heard}
-use Rattle.ring_log.specs.Epochs.{Epoch, above}
-use Rattle.ring_log.specs.EpochHistories.{CompleteExchange, exchange_after_message, after_all, complete_exchange, calls_in, places_below, base_on, own_base, log_by, log_of}
+use Rattle.ring_log.specs.Epochs.{Epoch, number_above_rings}
+use Rattle.ring_log.specs.EpochHistories.{CompleteExchange, exchange_after_message, exchange_after_messages, complete_exchange, calls_in, places_below, base_on, own_base, log_by, log_of}
 use Rattle.ring_log.specs.KnownLog.{KnownLog, known_log_of, known_log_head}
 use Rattle.ring_log_proof.specs.RingFacts.{HasEpoch, EpochIn, payloads_from, RingFacts}
-use Rattle.ring_log_proof.specs.Time.{IsKnownCall, SendsOnlyKnown}
+use Rattle.ring_log_proof.specs.EpochEvents.{IsKnownCall, SendsOnlyKnown}
 use Rattle.ring_log_proof.specs.Discipline.{FollowsHead, KeepsRules}
 use Rattle.ring_log_proof.proofs.CompleteExchanges.{complete_exchange-whole}
 use Rattle.ring_log_proof.proofs.Epochs.{IsLifeBelow, epochs-behind, below-above}
@@ -101,7 +101,7 @@ module _ {A : Type 0} (Known : OneCall A → Type 0) where
   heard-known e p (Wrapped old) k h = h
   heard-known e p End k h = h
 
-  all-known : (e : Exchange A) (xs : List (Message A)) → Each IsKnownLog xs → Each Known e.received_calls → Each Known (after_all e xs).received_calls
+  all-known : (e : Exchange A) (xs : List (Message A)) → Each IsKnownLog xs → Each Known e.received_calls → Each Known (exchange_after_messages e xs).received_calls
   all-known e [] k h = h
   all-known e (x ∷ xs) k h = all-known (exchange_after_message e x) xs k.1 (heard-known e x.sender x.payload k.0 h)
 
@@ -259,6 +259,6 @@ module _ {A : Type 0} (Known : OneCall A → Type 0) where
 
     pub logs-known : KeepsRules group node_epochs → SendsOnlyKnown Known node_epochs → (p : ℕ) → Each Known (log_of group (node_epochs p))
     logs-known disc calls p =
-        let bound = above (node_epochs p) in
+        let bound = number_above_rings (node_epochs p) in
         (all-below disc calls bound).logs bound (omega arith) p (node_epochs p)
         (record { rises = facts.rises p; there = λ s older i. i; low = below-above (node_epochs p) bound (facts.rises p) (omega arith) })

@@ -10,9 +10,9 @@ use Rattle.ring_log.specs.declared.wanted.Wanted.{Wanted}
 use Rattle.ring_log.specs.Exchanges.{wanted}
 use Rattle.ring_log.specs.Epochs.{Epoch}
 use Rattle.ring_log.specs.EpochHistories.{CompleteExchange, complete_exchange, calls_in}
-use Rattle.ring_log.specs.KnownLog.{KnownLog, restores, known_log_restored, known_log_joined, adopts, adopts_wanted, watermark_by, kept_by, known_log_of}
+use Rattle.ring_log.specs.KnownLog.{KnownLog, restores, known_log_restored, known_log_joined, adopts, adopts_wanted, watermark_by, known_log_after_epoch, known_log_of}
 use Rattle.ring_log_proof.specs.RingFacts.{safe_part}
-use Rattle.ring_log_proof.specs.Time.{IsEpochExtended}
+use Rattle.ring_log_proof.specs.EpochEvents.{IsEpochExtended}
 use Rattle.ring_log_proof.proofs.CompleteExchanges.{grown, complete_exchange-front, calls_in-append}
 use Rattle.ring_log_proof.proofs.SettledGrows.{upto-grows}
 
@@ -29,7 +29,7 @@ module _ {A : Type 0} (k : KnownLog A) (ring : RingId) where
           (λ t. let lt = ltb-true k.committed v.from (and_parts (is_some v.snapshot) (nat_lt k.committed v.from) t).1 in omega (arith, lt))
           (λ f. omega arith)
 
-  pub kept-least : (o p : Option (CompleteExchange A)) → k.committed ≤ (kept_by ring k o p).committed
+  pub kept-least : (o p : Option (CompleteExchange A)) → k.committed ≤ (known_log_after_epoch ring k o p).committed
   kept-least None p = omega arith
   kept-least (Some w) p = let least = adopts-least w in omega (arith, least)
 
@@ -52,13 +52,13 @@ module _ {A : Type 0} (k : KnownLog A) (ring : RingId) where
 
   kept-grown : (group : Group) (m : ℕ) (xs ys safe safer : List (Message A)) (o : Option (CompleteExchange A)) → complete_exchange group m xs ≡ o → IsListPrefix xs ys
       → IsListPrefix safe safer
-      → (kept_by ring k o (complete_exchange group m safe)).committed ≤ (kept_by ring k (complete_exchange group m ys) (complete_exchange group m safer)).committed
+      → (known_log_after_epoch ring k o (complete_exchange group m safe)).committed ≤ (known_log_after_epoch ring k (complete_exchange group m ys) (complete_exchange group m safer)).committed
   kept-grown group m xs ys safe safer None e f g = kept-least (complete_exchange group m ys) (complete_exchange group m safer)
   kept-grown group m xs ys safe safer (Some w) e f g =
       let base = adopts k ring w in
-      let now : (kept_by ring k (complete_exchange group m ys) (complete_exchange group m safer)).committed
+      let now : (known_log_after_epoch ring k (complete_exchange group m ys) (complete_exchange group m safer)).committed
       ≡ max base.committed (watermark_by base (complete_exchange group m safer)) =
-      ap (λ o. (kept_by ring k o (complete_exchange group m safer)).committed) (complete_exchange-front group m xs ys w e f)
+      ap (λ o. (known_log_after_epoch ring k o (complete_exchange group m safer)).committed) (complete_exchange-front group m xs ys w e f)
       ∙ ap (λ (b : KnownLog A). max b.committed (watermark_by b (complete_exchange group m safer))) (adopts-grown w f.0) in
       let reach = reach-grown base group m safe safer (complete_exchange group m safe) refl g in
       omega (arith, now, reach)
@@ -69,7 +69,7 @@ pub known-longer_list : {A : Type 0} (group : Group) (s t : Epoch A) (older : Li
 known-longer_list group s t older grows =
     let k = known_log_of group older in
     let safe = upto-grows s.mark t.mark s.heard t.heard grows.mark grows.heard in
-    let same = ap (λ r. (kept_by r k (complete_exchange group s.members t.heard) (complete_exchange group s.members (safe_part t))).committed) grows.ring
-    ∙ ap (λ m. (kept_by t.ring k (complete_exchange group m t.heard) (complete_exchange group m (safe_part t))).committed) grows.members in
+    let same = ap (λ r. (known_log_after_epoch r k (complete_exchange group s.members t.heard) (complete_exchange group s.members (safe_part t))).committed) grows.ring
+    ∙ ap (λ m. (known_log_after_epoch t.ring k (complete_exchange group m t.heard) (complete_exchange group m (safe_part t))).committed) grows.members in
     let more = kept-grown k s.ring group s.members s.heard t.heard (safe_part s) (safe_part t) (complete_exchange group s.members s.heard) refl grows.heard safe in
     omega (arith, more, same)

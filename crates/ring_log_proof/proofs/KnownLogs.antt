@@ -7,8 +7,8 @@ use Rattle.ring_base.specs.declared.ring_id.RingId.{RingId}
 use Rattle.ring_log.specs.Messages.{Message}
 use Rattle.ring_log.specs.Exchanges.{wanted}
 use Rattle.ring_log.specs.Epochs.{Epoch}
-use Rattle.ring_log.specs.EpochHistories.{CompleteExchange, complete_exchange, calls_in, upto}
-use Rattle.ring_log.specs.KnownLog.{KnownLog, IsKnownLog, restores, known_log_adopted, adopts, adopts_wanted, raised, followed_by, dropped_by, watermark_by, kept_by}
+use Rattle.ring_log.specs.EpochHistories.{CompleteExchange, complete_exchange, calls_in, messages_upto}
+use Rattle.ring_log.specs.KnownLog.{KnownLog, IsKnownLog, restores, known_log_adopted, adopts, adopts_wanted, known_log_committed_upto, followed_by, dropped_by, watermark_by, known_log_after_epoch}
 use Rattle.ring_log.specs.KnownLog.{known_log_of, known_log_length, begins_kept, keeps_wanted, keeps_kept}
 use Rattle.ring_log.proofs.AdoptedLogs.{known-adopted, known-followed, known-raised, known-dropped}
 use Rattle.ring_log_proof.proofs.CompleteExchanges.{grown, complete_exchange-front, complete_exchange-whole, upto-front, calls_in-append}
@@ -30,13 +30,13 @@ known-adopts {A} group m heard k ring w e is t =
 -- after an epoch
 known-by : {A : Type 0} (group : Group) (m : ℕ) (heard safe : List (Message A)) (k : KnownLog A) (ring : RingId) (places : ℕ) (o p : Option (CompleteExchange A))
     → complete_exchange group m heard ≡ o → complete_exchange group m safe ≡ p → IsListPrefix safe heard → IsKnownLog k → keeps_kept k ring o ≡ true
-    → places ≤ (kept_by ring k o p).committed → IsKnownLog (dropped_by places (kept_by ring k o p))
+    → places ≤ (known_log_after_epoch ring k o p).committed → IsKnownLog (dropped_by places (known_log_after_epoch ring k o p))
 known-by group m heard safe k ring places None p e f front is t le = known-dropped k places le is
 known-by group m heard safe k ring places (Some w) p e f front is t le =
     let a = adopts k ring w in
     let more = calls_in w.rest in
     let known = known-followed a more (known-adopts group m heard k ring w e is t) in
-    known-dropped (raised (watermark_by a p) (followed_by a more)) places le
+    known-dropped (known_log_committed_upto (watermark_by a p) (followed_by a more)) places le
     (known-raised (followed_by a more) (watermark_by a p) (reaches p f) known)
   where
     reaches : (p : Option (CompleteExchange _)) → complete_exchange group m safe ≡ p → watermark_by (adopts k ring w) p ≤ known_log_length (followed_by (adopts k ring w) (calls_in w.rest))
@@ -58,5 +58,5 @@ pub known-epoch : {A : Type 0} (group : Group) (s : Epoch A) (older : List (Epoc
     → keeps_kept (known_log_of group older) s.ring (complete_exchange group s.members s.heard) ≡ true → s.trimmed ≤ (known_log_of group (s ∷ older)).committed
     → IsKnownLog (known_log_of group (s ∷ older))
 known-epoch group s older is t le =
-    known-by group s.members s.heard (upto s.mark s.heard) (known_log_of group older) s.ring s.trimmed (complete_exchange group s.members s.heard)
-    (complete_exchange group s.members (upto s.mark s.heard)) refl refl (upto-front s.mark s.heard) is t le
+    known-by group s.members s.heard (messages_upto s.mark s.heard) (known_log_of group older) s.ring s.trimmed (complete_exchange group s.members s.heard)
+    (complete_exchange group s.members (messages_upto s.mark s.heard)) refl refl (upto-front s.mark s.heard) is t le

@@ -3,7 +3,7 @@
 use Rattle.std.proofs.Common.{ℕ, List, [], ◌∷◌}
 use Rattle.ring_base.specs.Prefixes.{IsListPrefix, prefix_self, prefix_trans}
 use Rattle.ring_base.specs.Group.{Group}
-use Rattle.ring_log_proof.specs.Time.{ConsistentMoment, IsNextMoment, IsOrderlyRun, last_of_run, committed_at}
+use Rattle.ring_log_proof.specs.EpochEvents.{ConsistentMoment, IsNextMoment, IsOrderlyRun, last_of_run, committed_at}
 use Rattle.ring_log_proof.proofs.Moment.{committed-grows}
 
 module _ {A : Type 0} {group : Group} where

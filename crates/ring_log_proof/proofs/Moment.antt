@@ -12,13 +12,13 @@ use Rattle.ring_payload.specs.declared.call.Call.{Call as OneCall}
 use Rattle.ring_log.specs.Messages.{Message}
 use Rattle.ring_log.specs.declared.wanted.Wanted.{Wanted}
 use Rattle.ring_log.specs.Exchanges.{wanted}
-use Rattle.ring_log.specs.Epochs.{Epoch, above}
+use Rattle.ring_log.specs.Epochs.{Epoch, number_above_rings}
 use Rattle.ring_log.specs.EpochHistories.{CompleteExchange, complete_exchange, log_of, own_base, committed_of, base_of, ring_log_by, ring_log, keeps_committed, is_sound}
 use Rattle.ring_log.specs.KnownLog.{known_log_of, keeps_kept, is_known_log_sound}
 use Rattle.ring_log_proof.specs.RingFacts.{HasEpoch, EpochIn, Rises, IsReceivedByAll, RingFacts}
 use Rattle.ring_log_proof.specs.Discipline.{KeepsRules, ConsistentEpochs}
 use Rattle.ring_log_proof.specs.Settled.{IsSettled}
-use Rattle.ring_log_proof.specs.Time.{IsEpochsExtended}
+use Rattle.ring_log_proof.specs.EpochEvents.{IsEpochsExtended}
 use Rattle.ring_log_proof.proofs.CompleteExchanges.{log_on}
 use Rattle.ring_log_proof.proofs.Epochs.{IsLifeBelow, below-above, epochs-behind}
 use Rattle.ring_log_proof.proofs.Views.{keeps-more}
@@ -31,7 +31,7 @@ use Rattle.ring_log_proof.proofs.KnownLogSuffixes.{sound-same}
 use Rattle.ring_log_proof.specs.Views.{IsView}
 use Rattle.ring_log_proof.proofs.SettledGrows.{settled-onward, committed-longer_list}
 
-epochs-below : {A : Type 0} (epochs : List (Epoch A)) (bound : ℕ) → Rises epochs → above epochs ≤ bound → IsLifeBelow epochs epochs bound
+epochs-below : {A : Type 0} (epochs : List (Epoch A)) (bound : ℕ) → Rises epochs → number_above_rings epochs ≤ bound → IsLifeBelow epochs epochs bound
 epochs-below epochs bound rises le = record { rises = rises; there = λ s older i. i; low = below-above epochs bound rises le }
 
 -- A ring's log, as it is defined
@@ -123,19 +123,19 @@ module _ {A : Type 0} (group : Group) (node_epochs : ℕ → List (Epoch A)) (me
       settled-either group node_epochs members text facts disc bound xs ys (agreed-all group node_epochs members text facts disc bound) (bx.1 bound (omega arith))
       (by.1 bound (omega arith))
 
-  kept-at : (p bound : ℕ) → above (node_epochs p) ≤ bound → KnownLog group node_epochs members text facts disc bound (node_epochs p)
+  kept-at : (p bound : ℕ) → number_above_rings (node_epochs p) ≤ bound → KnownLog group node_epochs members text facts disc bound (node_epochs p)
   kept-at p bound le = kept-all group node_epochs members text facts disc bound p (node_epochs p) (epochs-below (node_epochs p) bound (facts.rises p) le)
 
   -- what a node committed is empty or settled, and is a prefix of its log
   pub committed-settled : (p : ℕ) → (committed_of group (node_epochs p) ≡ []) ⊎ IsSettled group node_epochs members (committed_of group (node_epochs p))
-  committed-settled p = elim (kept-at p (above (node_epochs p)) (omega arith)).settled
+  committed-settled p = elim (kept-at p (number_above_rings (node_epochs p)) (omega arith)).settled
       as (λ _. (committed_of group (node_epochs p) ≡ []) ⊎ IsSettled group node_epochs members (committed_of group (node_epochs p))) [
         | inl none ↦ inl none
-        | inr settled ↦ inr (settled-made group node_epochs members (above (node_epochs p)) (committed_of group (node_epochs p)) settled)
+        | inr settled ↦ inr (settled-made group node_epochs members (number_above_rings (node_epochs p)) (committed_of group (node_epochs p)) settled)
       ]
 
   pub committed-front : (p : ℕ) → IsListPrefix (committed_of group (node_epochs p)) (log_of group (node_epochs p))
-  committed-front p = (kept-at p (above (node_epochs p)) (omega arith)).front
+  committed-front p = (kept-at p (number_above_rings (node_epochs p)) (omega arith)).front
 
   -- of what two nodes committed, one is a prefix of the other
   pub committed-fronts : (p q : ℕ) → IsListPrefix (committed_of group (node_epochs p)) (committed_of group (node_epochs q))
@@ -187,7 +187,7 @@ module _ {A : Type 0} (group : Group) (node_epochs : ℕ → List (Epoch A)) (me
   views-all bound = (agreed-all group node_epochs members text facts disc bound).views
 
   pub view-at : (p : ℕ) → IsView group (node_epochs p)
-  view-at p = views-all (above (node_epochs p)) p (node_epochs p) (epochs-below (node_epochs p) (above (node_epochs p)) (facts.rises p) (omega arith))
+  view-at p = views-all (number_above_rings (node_epochs p)) p (node_epochs p) (epochs-below (node_epochs p) (number_above_rings (node_epochs p)) (facts.rises p) (omega arith))
 
   -- no node finds, from its known log, that a base lacks committed places
   pub keeps-known : (p : ℕ) (s : Epoch A) (older : List (Epoch A)) → HasEpoch (node_epochs p) s older

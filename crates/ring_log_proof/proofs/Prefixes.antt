@@ -9,7 +9,7 @@ use Rattle.std.proofs.lemmas.Bool.{cond-true, cond-false, cond_both, cases_eq, n
 use Rattle.ring_base.specs.Group.{Group}
 use Rattle.ring_payload.specs.declared.call.Call.{Call as OneCall}
 use Rattle.ring_log.specs.Epochs.{Epoch}
-use Rattle.ring_log.specs.EpochHistories.{complete_exchange, log_of, older_at, filled, front_wanted, front_by, front_after, front_in, fronts_below, whole_epochs}
+use Rattle.ring_log.specs.EpochHistories.{complete_exchange, log_of, older_at, epochs_with_snapshots, front_wanted, front_by, front_after, front_in, fronts_below, whole_epochs}
 use Rattle.ring_log_proof.specs.RingFacts.{HasEpoch, Rises}
 use Rattle.ring_log_proof.specs.Discipline.{HasOwnerSnapshots}
 use Rattle.ring_log_proof.proofs.Epochs.{top-above, seq-same}
@@ -26,9 +26,9 @@ module _ {A : Type 0} (fronts : ℕ → ℕ → List (OneCall A)) (p : ℕ) wher
     pub older : List (Epoch A)
     pub there : HasEpoch epochs epoch older
     pub stay_is : fill epoch ≡ t
-    pub older_is : filled fronts p older ≡ before
+    pub older_is : epochs_with_snapshots fronts p older ≡ before
 
-  pub filled-epoch : (epochs : List (Epoch A)) (t : Epoch A) (before : List (Epoch A)) → HasEpoch (filled fronts p epochs) t before → FilledStay epochs t before
+  pub filled-epoch : (epochs : List (Epoch A)) (t : Epoch A) (before : List (Epoch A)) → HasEpoch (epochs_with_snapshots fronts p epochs) t before → FilledStay epochs t before
   filled-epoch [] t before h = absurd h
   filled-epoch (s ∷ older) t before (inl e) = record { epoch = s; older = older; there = inl (refl, refl); stay_is = e.0; older_is = e.1 }
   filled-epoch (s ∷ older) t before (inr i) =
@@ -36,21 +36,21 @@ module _ {A : Type 0} (fronts : ℕ → ℕ → List (OneCall A)) (p : ℕ) wher
       record { epoch = f.epoch; older = f.older; there = inr f.there; stay_is = f.stay_is; older_is = f.older_is }
 
   -- the life before a ring is filled likewise
-  filled-older : (number : ℕ) (epochs : List (Epoch A)) → older_at number (filled fronts p epochs) ≡ filled fronts p (older_at number epochs)
+  filled-older : (number : ℕ) (epochs : List (Epoch A)) → older_at number (epochs_with_snapshots fronts p epochs) ≡ epochs_with_snapshots fronts p (older_at number epochs)
   filled-older number [] = refl
   filled-older number (s ∷ older) = by (s.ring.seq == number) (filled-older number older)
     where
-      by : (b : Bool) → older_at number (filled fronts p older) ≡ filled fronts p (older_at number older)
-          → (if b then filled fronts p older else older_at number (filled fronts p older)) ≡ filled fronts p (if b then older else older_at number older)
+      by : (b : Bool) → older_at number (epochs_with_snapshots fronts p older) ≡ epochs_with_snapshots fronts p (older_at number older)
+          → (if b then epochs_with_snapshots fronts p older else older_at number (epochs_with_snapshots fronts p older)) ≡ epochs_with_snapshots fronts p (if b then older else older_at number older)
       by true same = refl
       by false same = same
 
 -- if two fillings agree on each ring
 pub filled-same : {A : Type 0} (f g : ℕ → ℕ → List (OneCall A)) (p : ℕ) (epochs : List (Epoch A))
-    → ((s : Epoch A) (older : List (Epoch A)) → HasEpoch epochs s older → f p s.ring.seq ≡ g p s.ring.seq) → filled f p epochs ≡ filled g p epochs
+    → ((s : Epoch A) (older : List (Epoch A)) → HasEpoch epochs s older → f p s.ring.seq ≡ g p s.ring.seq) → epochs_with_snapshots f p epochs ≡ epochs_with_snapshots g p epochs
 filled-same f g p [] same = refl
 filled-same {A} f g p (s ∷ older) same =
-    ap (λ (l : List (OneCall A)). record s { front = l } ∷ filled f p older) (same s older (inl (refl, refl)))
+    ap (λ (l : List (OneCall A)). record s { front = l } ∷ epochs_with_snapshots f p older) (same s older (inl (refl, refl)))
     ∙ ap (λ l. record s { front = g p s.ring.seq } ∷ l) (filled-same f g p older (λ t before i. same t before (inr i)))
 
 -- the life before the ring of a number has smaller numbers
@@ -110,11 +110,11 @@ module _ {A : Type 0} (group : Group) (node_epochs : ℕ → List (Epoch A)) (ri
       let n = s.ring.seq in
       let heard : complete_exchange group s.members s.heard ≡ Some whole =
       subst (λ (u : Epoch A). complete_exchange group u.members u.heard ≡ Some whole) (sym f.stay_is) exch in
-      let told : Prefixes (bounds p) p n ≡ take at (log_of group (filled (Prefixes n) w.owner (older_at n (node_epochs w.owner)))) =
+      let told : Prefixes (bounds p) p n ≡ take at (log_of group (epochs_with_snapshots (Prefixes n) w.owner (older_at n (node_epochs w.owner)))) =
       front-of (bounds p) p s f.older f.there (above p s f.older f.there) ∙ ap (front_after group node_epochs (Prefixes n) n) heard
       ∙ ap (front_by group node_epochs (Prefixes n) n) wants ∙ ap (front_wanted group node_epochs (Prefixes n) n w) snap in
       let q = w.owner in
-      let behind : filled (Prefixes n) q (older_at n (node_epochs q)) ≡ older_at n (whole_epochs group node_epochs (bounds q) q) =
+      let behind : epochs_with_snapshots (Prefixes n) q (older_at n (node_epochs q)) ≡ older_at n (whole_epochs group node_epochs (bounds q) q) =
       filled-same (Prefixes n) (Prefixes (bounds q)) q (older_at n (node_epochs q)) (λ u older i.
       let low = older-low n (node_epochs q) (rises q) u older i in
       front-stable n q u.ring.seq low.0 ∙ sym (front-stable (bounds q) q u.ring.seq (above q u older low.1)))

@@ -11,7 +11,7 @@ use Rattle.ring_payload.specs.declared.content.Payload.{Payload}
 use Rattle.ring_payload.specs.declared.content.Payload.TheVariants.{Call, Wrapped, End, Head, Part, Pack, Snap}
 use Rattle.ring_log.specs.Examples.{group_of_three, message_of}
 use Rattle.ring_log.specs.Messages.{Message}
-use Rattle.ring_log.specs.Epochs.{Epoch, epochs_opening}
+use Rattle.ring_log.specs.Epochs.{Epoch, history_opening_of}
 use Rattle.ring_log.specs.KnownLog.{known_log_of, known_log_head}
 use Rattle.ring_log_proof.specs.RingFacts.{RingFacts}
 use Rattle.ring_log_proof.specs.Discipline.{FollowsHead, KeepsDiscipline}
@@ -27,7 +27,7 @@ not-first s none is = let four : s.ring.seq ≡ 4 = ap (λ (r : RingId). r.seq) 
 pub refuses-missing_heads : RingFacts (lives_with missing_heads) members text → ⊥
 refuses-missing_heads facts =
     let Bad : Epoch Global → Type 0 = λ s. s.ring ≡ first_ring → IsListPrefix first_text s.heard → ⊥ in
-    elim (facts.safe 1 one_first (epochs_opening 1) (inr (inl (refl, refl)))) as (λ _. ⊥) [
+    elim (facts.safe 1 one_first (history_opening_of 1) (inr (inl (refl, refl)))) as (λ _. ⊥) [
       | inl none ↦ absurd (cc none)
       | inr all ↦
           let at = all 2 (omega arith, refl) in
@@ -45,13 +45,13 @@ pub refuses-misheard : RingFacts (lives_with misheard) members text → ⊥
 unfolding sender-first
 refuses-misheard facts =
     let heard : List (Message Global) = message_of first_ring 4 2 first_head ∷ [] in
-    let f = facts.heard 2 (record { ring = first_ring; members = 7; heard = heard; mark = 0; sent = first_head ∷ []; trimmed = 0; front = [] }) (epochs_opening 2) (inl (refl, refl)) in
+    let f = facts.heard 2 (record { ring = first_ring; members = 7; heard = heard; mark = 0; sent = first_head ∷ []; trimmed = 0; front = [] }) (history_opening_of 2) (inl (refl, refl)) in
     let e : 2 ≡ 1 = ap sender-first f.1 in
     absurd (omega (arith, e))
 
 pub refuses-smaller : RingFacts (lives_with smaller) members text → ⊥
 refuses-smaller facts =
-    let e : 3 ≡ 7 = facts.one_set 2 (record { ring = first_ring; members = 3; heard = first_text; mark = 6; sent = first_head ∷ []; trimmed = 0; front = [] }) (epochs_opening 2)
+    let e : 3 ≡ 7 = facts.one_set 2 (record { ring = first_ring; members = 3; heard = first_text; mark = 6; sent = first_head ∷ []; trimmed = 0; front = [] }) (history_opening_of 2)
     (inl (refl, refl)) in
     absurd (omega (arith, e))
 
@@ -86,7 +86,7 @@ last-or (Some h) = h.last
 pub refuses-older_head : KeepsDiscipline group_of_three (lives_with older_head) → ⊥
 unfolding head-first last-or elements
 refuses-older_head keeps =
-    elim (keeps 2 (in_second [] 0 (head_at None 1 0 ∷ [])) (two_first ∷ epochs_opening 2) (inl (refl, refl))) as (λ _. ⊥) [
+    elim (keeps 2 (in_second [] 0 (head_at None 1 0 ∷ [])) (two_first ∷ history_opening_of 2) (inl (refl, refl))) as (λ _. ⊥) [
       | inl none ↦ absurd (cc none)
       | inr opens ↦ absurd (let e : None ≡ Some first_ring = ap (λ l. last-or (head-first l)) opens.opens in cc e)
     ]
@@ -94,9 +94,9 @@ refuses-older_head keeps =
 pub refuses-late_head : KeepsDiscipline group_of_three (lives_with late_head) → ⊥
 unfolding head-first
 refuses-late_head keeps =
-    elim (keeps 2 (in_second [] 0 (Call (call_by 9) ∷ head_at (Some first_ring) 1 0 ∷ [])) (two_first ∷ epochs_opening 2) (inl (refl, refl))) as (λ _. ⊥) [
+    elim (keeps 2 (in_second [] 0 (Call (call_by 9) ∷ head_at (Some first_ring) 1 0 ∷ [])) (two_first ∷ history_opening_of 2) (inl (refl, refl))) as (λ _. ⊥) [
       | inl none ↦ absurd (cc none)
-      | inr opens ↦ absurd (let e : None ≡ Some (known_log_head (known_log_of group_of_three (two_first ∷ epochs_opening 2))) = ap head-first opens.opens in cc e)
+      | inr opens ↦ absurd (let e : None ≡ Some (known_log_head (known_log_of group_of_three (two_first ∷ history_opening_of 2))) = ap head-first opens.opens in cc e)
     ]
 
 rest-of : List (Payload Global) → List (Payload Global)
@@ -110,12 +110,12 @@ client-first (c ∷ cs) = c.client
 pub refuses-wrong_part : KeepsDiscipline group_of_three (lives_with wrong_part) → ⊥
 unfolding rest-of client-first elements
 refuses-wrong_part keeps =
-    elim (keeps 2 (in_second [] 0 (head_at (Some first_ring) 1 0 ∷ part_at 0 (call_by 9 ∷ []) ∷ [])) (two_first ∷ epochs_opening 2) (inl (refl, refl))) as (λ _. ⊥) [
+    elim (keeps 2 (in_second [] 0 (head_at (Some first_ring) 1 0 ∷ part_at 0 (call_by 9 ∷ []) ∷ [])) (two_first ∷ history_opening_of 2) (inl (refl, refl))) as (λ _. ⊥) [
       | inl none ↦ absurd (cc none)
       | inr opens ↦
           let is : part_at 0 (call_by 9 ∷ []) ∷ [] ≡ opens.rest = ap rest-of opens.opens in
-          let f : Each (FollowsHead (known_log_of group_of_three (two_first ∷ epochs_opening 2))) (part_at 0 (call_by 9 ∷ []) ∷ []) =
-          subst (Each (FollowsHead (known_log_of group_of_three (two_first ∷ epochs_opening 2)))) (sym is) opens.follows in
+          let f : Each (FollowsHead (known_log_of group_of_three (two_first ∷ history_opening_of 2))) (part_at 0 (call_by 9 ∷ []) ∷ []) =
+          subst (Each (FollowsHead (known_log_of group_of_three (two_first ∷ history_opening_of 2)))) (sym is) opens.follows in
           let e : 9 ≡ 7 = ap client-first f.0.1.1 in
           absurd (omega (arith, e))
     ]

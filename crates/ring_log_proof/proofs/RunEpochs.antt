@@ -13,8 +13,8 @@ use Rattle.ring_log.specs.EpochHistories.{complete_exchange_from}
 use Rattle.ring_log.specs.KnownLog.{known_log_of, known_log_head}
 use Rattle.ring_log_proof.specs.RingFacts.{HasEpoch}
 use Rattle.ring_log_proof.specs.Discipline.{FollowsHead, OpensWithHead, KeepsDiscipline, DropsOnlyCommitted, DropsCommitted}
-use Rattle.ring_log_proof.specs.Time.{IsEpochExtended, IsEpochsExtended, EpochEvent, Agreed, Safe, Regular, Handed, Dropped, epochs_after_event, epochs_after_events, MaySendFirst, MaySendAfter}
-use Rattle.ring_log_proof.specs.Time.{MayHappen, AllMayHappen, IsKnownCall, SendsOnlyKnown, SendsKnown}
+use Rattle.ring_log_proof.specs.EpochEvents.{IsEpochExtended, IsEpochsExtended, EpochEvent, Agreed, Safe, Regular, Handed, Dropped, epochs_after_event, epochs_after_events, MaySendFirst, MaySendAfter}
+use Rattle.ring_log_proof.specs.EpochEvents.{MayHappen, AllMayHappen, IsKnownCall, SendsOnlyKnown, SendsKnown}
 use Rattle.ring_log_proof.proofs.CompleteExchanges.{grown, whole-front}
 use Rattle.ring_log_proof.proofs.SettledGrows.{grows-self}
 use Rattle.ring_log_proof.proofs.KnownGrows.{known-longer_list}

@@ -11,11 +11,11 @@ use Rattle.ring_payload.specs.declared.call.Call.{Call as OneCall}
 use Rattle.ring_log.specs.Messages.{Message}
 use Rattle.ring_log.specs.Exchanges.{wanted}
 use Rattle.ring_log.specs.Epochs.{Epoch}
-use Rattle.ring_log.specs.EpochHistories.{CompleteExchange, complete_exchange, calls_in, own_base, log_of, upto, longer_list, committed_by, front_on, restored_by, committed_of}
+use Rattle.ring_log.specs.EpochHistories.{CompleteExchange, complete_exchange, calls_in, own_base, log_of, messages_upto, longer_list, committed_by, front_on, restored_by, committed_of}
 use Rattle.ring_log.specs.EpochHistories.{older_at, owner_log, base_of}
 use Rattle.ring_log_proof.specs.RingFacts.{HasEpoch, EpochIn, safe_part, RingFacts}
 use Rattle.ring_log_proof.specs.Discipline.{KeepsRules}
-use Rattle.ring_log_proof.specs.Time.{IsEpochExtended, IsEpochsExtended}
+use Rattle.ring_log_proof.specs.EpochEvents.{IsEpochExtended, IsEpochsExtended}
 use Rattle.ring_log_proof.proofs.CompleteExchanges.{grown, complete_exchange-front, complete_exchange-from, upto-front, log_on, grown-front}
 use Rattle.ring_log_proof.proofs.Epochs.{older-in}
 use Rattle.ring_log_proof.proofs.HonestExchanges.{Outcome}
@@ -61,19 +61,19 @@ still-there (t ∷ before) after s older on (inr x) = record {
 
 -- Committed lengths never fall
 
-pub upto-grows : {A : Type 0} (low high : ℕ) (xs ys : List (Message A)) → low ≤ high → IsListPrefix xs ys → IsListPrefix (upto low xs) (upto high ys)
-upto-grows low high [] ys le f = (upto high ys, refl)
+pub upto-grows : {A : Type 0} (low high : ℕ) (xs ys : List (Message A)) → low ≤ high → IsListPrefix xs ys → IsListPrefix (messages_upto low xs) (messages_upto high ys)
+upto-grows low high [] ys le f = (messages_upto high ys, refl)
 upto-grows low high (x ∷ xs) [] le f = absurd (cc (f.1))
 upto-grows {A} low high (x ∷ xs) (y ∷ ys) le f =
     let same : y ≡ x = cc (f.1) in
-    subst (λ (z : Message A). IsListPrefix (upto low (x ∷ xs)) (upto high (z ∷ ys))) (sym same)
-    (cond_both (nat_le x.number low) (x ∷ upto low xs) [] (λ l. IsListPrefix l (upto high (x ∷ ys)))
+    subst (λ (z : Message A). IsListPrefix (messages_upto low (x ∷ xs)) (messages_upto high (z ∷ ys))) (sym same)
+    (cond_both (nat_le x.number low) (x ∷ messages_upto low xs) [] (λ l. IsListPrefix l (messages_upto high (x ∷ ys)))
     (λ t.
     let more = upto-grows low high xs ys le (f.0, cc (f.1)) in
-    cond_both (nat_le x.number high) (x ∷ upto high ys) [] (λ l. IsListPrefix (x ∷ upto low xs) l)
+    cond_both (nat_le x.number high) (x ∷ messages_upto high ys) [] (λ l. IsListPrefix (x ∷ messages_upto low xs) l)
     (λ u. (more.0, ap (λ l. x ∷ l) more.1))
     (λ u. absurd (let k : true ≡ false = sym (le-leb x.number high (omega (arith, le, leb-true x.number low t))) ∙ u in cc k)))
-    (λ t. (upto high (x ∷ ys), refl)))
+    (λ t. (messages_upto high (x ∷ ys), refl)))
 
 module _ {A : Type 0} (group : Group) where
   committed-least : (log front old : List (OneCall A)) (o : Option (CompleteExchange A)) → length old ≤ length (committed_by log front old o)

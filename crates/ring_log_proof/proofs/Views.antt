@@ -16,10 +16,10 @@ use Rattle.ring_log.specs.declared.wanted.Wanted.{Wanted}
 use Rattle.ring_log.specs.Exchanges.{wanted, has_all_wanted}
 use Rattle.ring_log.specs.Logs.{begins, is_log_length}
 use Rattle.ring_log.specs.Epochs.{Epoch}
-use Rattle.ring_log.specs.EpochHistories.{CompleteExchange, complete_exchange, own_base, places_below, base_on, log_by, log_of, last_by, last_of, calls_in, upto, longer_list, committed_by}
+use Rattle.ring_log.specs.EpochHistories.{CompleteExchange, complete_exchange, own_base, places_below, base_on, log_by, log_of, last_by, last_of, calls_in, messages_upto, longer_list, committed_by}
 use Rattle.ring_log.specs.EpochHistories.{front_on, restored_by, committed_of, trimmed_on, trimmed_by, trimmed_of, head_of_epochs, is_known_below, is_known_on}
 use Rattle.ring_log.specs.EpochHistories.{keeps_committed}
-use Rattle.ring_log.specs.KnownLog.{KnownLog, restores, known_log_restored, first_joined, known_log_joined, adopts_wanted, adopts, raised, followed_by, based_on, kept_by, dropped_by, known_log_of, known_log_length, known_committed}
+use Rattle.ring_log.specs.KnownLog.{KnownLog, restores, known_log_restored, first_joined, known_log_joined, adopts_wanted, adopts, known_log_committed_upto, followed_by, known_log_after_exchange, known_log_after_epoch, dropped_by, known_log_of, known_log_length, known_committed}
 use Rattle.ring_log.specs.KnownLog.{known_retained, known_log_head, begins_kept, keeps_wanted, keeps_kept}
 use Rattle.ring_log.proofs.LongerLists.{length-longer_list}
 use Rattle.ring_log_proof.proofs.CompleteExchanges.{grown, complete_exchange-front, complete_exchange-whole, upto-front}
@@ -212,7 +212,7 @@ module _ {A : Type 0} (own front done : List (OneCall A)) (gone : ℕ) (last : O
 
 -- calls are appended to a log, and the committed length rises
 followed-rests : {A : Type 0} (log more : List (OneCall A)) (committed trimmed reach : ℕ) (last : Option RingId) (k : KnownLog A)
-    → IsLogSuffix log committed trimmed last k → IsLogSuffix (log ++ more) (max committed reach) trimmed last (raised reach (followed_by k more))
+    → IsLogSuffix log committed trimmed last k → IsLogSuffix (log ++ more) (max committed reach) trimmed last (known_log_committed_upto reach (followed_by k more))
 followed-rests log more committed trimmed reach last k r = record {
   calls = ap (λ l. l ++ more) r.calls ∙ sym (drop-append-le k.from log more r.within);
   within = omega (arith, r.within, length-append log more);
@@ -269,19 +269,19 @@ module _ {A : Type 0} (own front done : List (OneCall A)) (gone : ℕ) (last : O
   keeps-is group m heard (Some w) e t = (adopts-rests group m heard w e t).1
 
   kept-rests : (group : Group) (m : ℕ) (heard : List (Message A)) (mark : ℕ) (o p : Option (CompleteExchange A)) → complete_exchange group m heard ≡ o
-      → complete_exchange group m (upto mark heard) ≡ p → keeps_committed own front done o ≡ true
+      → complete_exchange group m (messages_upto mark heard) ≡ p → keeps_committed own front done o ≡ true
       → IsLogSuffix (log_by own front o) (length (committed_by own front (restored_by front done o) p)) (trimmed_by gone (length done) o) (last_by ring last o)
-      (kept_by ring k o p)
+      (known_log_after_epoch ring k o p)
   kept-rests group m heard mark None None e f t = rests
   kept-rests group m heard mark None (Some v) e f t =
-      absurd (let y = sym (complete_exchange-front group m (upto mark heard) heard v f (upto-front mark heard)) ∙ e in cc y)
+      absurd (let y = sym (complete_exchange-front group m (messages_upto mark heard) heard v f (upto-front mark heard)) ∙ e in cc y)
   kept-rests group m heard mark (Some w) None e f t =
       let a = (adopts-rests group m heard w e t).0 in
       let new = restored_by front done (Some w) in
       let gone_then = trimmed_by gone (length done) (Some w) in
       let base = own_base own front w.exchange in
       let n : max (length new) 0 ≡ length new = omega arith in
-      subst (λ c. IsLogSuffix (base ++ calls_in w.rest) c gone_then (Some ring) (based_on (adopts k ring w) w None)) n
+      subst (λ c. IsLogSuffix (base ++ calls_in w.rest) c gone_then (Some ring) (known_log_after_exchange (adopts k ring w) w None)) n
       (followed-rests base (calls_in w.rest) (length new) gone_then 0 (Some ring) (adopts k ring w) a)
   kept-rests group m heard mark (Some w) (Some v) e f t =
       let a = (adopts-rests group m heard w e t).0 in
@@ -289,7 +289,7 @@ module _ {A : Type 0} (own front done : List (OneCall A)) (gone : ℕ) (last : O
       let gone_then = trimmed_by gone (length done) (Some w) in
       let base = own_base own front w.exchange in
       let front_is = upto-front mark heard in
-      let grows : Some (grown v front_is.0) ≡ Some w = sym (complete_exchange-front group m (upto mark heard) heard v f front_is) ∙ e in
+      let grows : Some (grown v front_is.0) ≡ Some w = sym (complete_exchange-front group m (messages_upto mark heard) heard v f front_is) ∙ e in
       let same : grown v front_is.0 ≡ w = cc grows in
       let base_is : own_base own front v.exchange ≡ base = ap (λ (u : CompleteExchange A). own_base own front u.exchange) same in
       let reach = known_log_length (adopts k ring w) + length (calls_in v.rest) in
@@ -298,7 +298,7 @@ module _ {A : Type 0} (own front done : List (OneCall A)) (gone : ℕ) (last : O
       let size = rests-length base (length new) gone_then (Some ring) (adopts k ring w) a in
       let n : max (length new) reach ≡ length (longer_list new (own_base own front v.exchange ++ calls_in v.rest)) =
       omega (arith, long, parts, ap length base_is, size) in
-      subst (λ c. IsLogSuffix (base ++ calls_in w.rest) c gone_then (Some ring) (based_on (adopts k ring w) w (Some v))) n
+      subst (λ c. IsLogSuffix (base ++ calls_in w.rest) c gone_then (Some ring) (known_log_after_exchange (adopts k ring w) w (Some v))) n
       (followed-rests base (calls_in w.rest) (length new) gone_then reach (Some ring) (adopts k ring w) a)
 
 -- ---- lives
@@ -315,10 +315,10 @@ module _ {A : Type 0} (group : Group) (s : Epoch A) (older : List (Epoch A)) whe
   view-more within v t le =
       dropped-rests s.trimmed (log_of group (s ∷ older)) (length (committed_of group (s ∷ older)))
       (trimmed_by (trimmed_of group older) (length (committed_of group older)) (complete_exchange group s.members s.heard)) (last_of group (s ∷ older))
-      (kept_by s.ring (known_log_of group older) (complete_exchange group s.members s.heard) (complete_exchange group s.members (upto s.mark s.heard))) le
+      (known_log_after_epoch s.ring (known_log_of group older) (complete_exchange group s.members s.heard) (complete_exchange group s.members (messages_upto s.mark s.heard))) le
       (kept-rests (log_of group older) s.front (committed_of group older) (trimmed_of group older) (last_of group older) s.ring (known_log_of group older) v
       within group s.members s.heard s.mark (complete_exchange group s.members s.heard)
-      (complete_exchange group s.members (upto s.mark s.heard)) refl refl t)
+      (complete_exchange group s.members (messages_upto s.mark s.heard)) refl refl t)
 
   pub keeps-more : IsCommitted → IsView group older → Keeps → keeps_kept (known_log_of group older) s.ring (complete_exchange group s.members s.heard) ≡ true
   keeps-more within v t =

@@ -11,11 +11,11 @@ use Rattle.ring_base.specs.Members.{everybody_members}
 use Rattle.ring_base.specs.Rings.{same_ring}
 use Rattle.ring_base.specs.declared.ring_id.RingId.{RingId}
 use Rattle.ring_base.proofs.SameRing.{ring_same}
-use Rattle.ring_payload.specs.Kinds.{unpacked_payloads}
+use Rattle.ring_payload.specs.PayloadKinds.{unpacked_payloads}
 use Rattle.ring_payload.specs.declared.content.Payload.TheVariants.{Call}
 use Rattle.ring_log.specs.Examples.{group_of_three, message_of}
 use Rattle.ring_log.specs.Messages.{Message}
-use Rattle.ring_log.specs.Epochs.{Epoch, epochs_opening}
+use Rattle.ring_log.specs.Epochs.{Epoch, history_opening_of}
 use Rattle.ring_log_proof.specs.RingFacts.{HasEpoch, EpochIn, Rises, payloads_from, safe_part, IsReceivedByAll, RingFacts}
 use Rattle.ring_log_proof.specs.Discipline.{OpensWithHead, KeepsDiscipline}
 use Rattle.ring_log_proof.specs.Examples.{first_ring, second_ring, call_by, part_at, text, members, first_text, second_exchange, second_text}
@@ -53,19 +53,19 @@ said-nothing p (x ∷ xs) h = ap (λ l. l ++ payloads_from p xs) (cond-false (x.
 -- The epochs
 
 abbrev first-of-one : EpochIn (node_epochs 1) first_ring
-first-of-one = record { epoch = one_first; older = epochs_opening 1; there = inr (inl (refl, refl)); ring = refl }
+first-of-one = record { epoch = one_first; older = history_opening_of 1; there = inr (inl (refl, refl)); ring = refl }
 
 abbrev first-of-two : EpochIn (node_epochs 2) first_ring
-first-of-two = record { epoch = two_first; older = epochs_opening 2; there = inr (inl (refl, refl)); ring = refl }
+first-of-two = record { epoch = two_first; older = history_opening_of 2; there = inr (inl (refl, refl)); ring = refl }
 
 abbrev first-of-three : EpochIn (node_epochs 3) first_ring
-first-of-three = record { epoch = three_first; older = epochs_opening 3; there = inl (refl, refl); ring = refl }
+first-of-three = record { epoch = three_first; older = history_opening_of 3; there = inl (refl, refl); ring = refl }
 
 abbrev second-of-one : EpochIn (node_epochs 1) second_ring
-second-of-one = record { epoch = one_second; older = one_first ∷ epochs_opening 1; there = inl (refl, refl); ring = refl }
+second-of-one = record { epoch = one_second; older = one_first ∷ history_opening_of 1; there = inl (refl, refl); ring = refl }
 
 abbrev second-of-two : EpochIn (node_epochs 2) second_ring
-second-of-two = record { epoch = two_second; older = two_first ∷ epochs_opening 2; there = inl (refl, refl); ring = refl }
+second-of-two = record { epoch = two_second; older = two_first ∷ history_opening_of 2; there = inl (refl, refl); ring = refl }
 
 -- one of three processors, or another
 of-three : (P : ℕ → Type 0) → P 1 → P 2 → P 3 → (p : ℕ) → ((p ≡ 1 → ⊥) → (p ≡ 2 → ⊥) → (p ≡ 3 → ⊥) → P p) → P p

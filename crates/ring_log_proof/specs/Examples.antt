@@ -12,7 +12,7 @@ use Rattle.ring_payload.specs.declared.content.Payload.{Payload}
 use Rattle.ring_payload.specs.declared.content.Payload.TheVariants.{Call, Head, Part}
 use Rattle.ring_log.specs.Examples.{message_of}
 use Rattle.ring_log.specs.Messages.{Message}
-use Rattle.ring_log.specs.Epochs.{Epoch, epochs_opening}
+use Rattle.ring_log.specs.Epochs.{Epoch, history_opening_of}
 
 -- Ring 4.1.
 abbrev pub first_ring : RingId
@@ -103,15 +103,15 @@ three_first = in_first 4 (first_head ∷ [])
 
 -- The epochs of processor 1, newest first.
 abbrev pub life_of_one : List (Epoch Global)
-life_of_one = one_second ∷ one_first ∷ epochs_opening 1
+life_of_one = one_second ∷ one_first ∷ history_opening_of 1
 
 -- The epochs of processor 2.
 abbrev pub life_of_two : List (Epoch Global)
-life_of_two = two_second ∷ two_first ∷ epochs_opening 2
+life_of_two = two_second ∷ two_first ∷ history_opening_of 2
 
 -- The epochs of processor 3, which was never in ring 8.1.
 abbrev pub life_of_three : List (Epoch Global)
-life_of_three = three_first ∷ epochs_opening 3
+life_of_three = three_first ∷ history_opening_of 3
 
 -- The epochs of all processors, with the given ones of processor 2.
 abbrev pub lives_with : List (Epoch Global) → ℕ → List (Epoch Global)
@@ -125,32 +125,32 @@ node_epochs = lives_with life_of_two
 
 -- It didn't receive in ring 4.1 the messages that processor 1 knows as safe there.
 abbrev pub missing_heads : List (Epoch Global)
-missing_heads = record { ring = first_ring; members = 7; heard = message_of first_ring 4 1 first_head ∷ []; mark = 4; sent = first_head ∷ []; trimmed = 0; front = [] } ∷ epochs_opening 2
+missing_heads = record { ring = first_ring; members = 7; heard = message_of first_ring 4 1 first_head ∷ []; mark = 4; sent = first_head ∷ []; trimmed = 0; front = [] } ∷ history_opening_of 2
 
 -- It received a Head that isn't in the ring's text.
 abbrev pub misheard : List (Epoch Global)
-misheard = record { ring = first_ring; members = 7; heard = message_of first_ring 4 2 first_head ∷ []; mark = 0; sent = first_head ∷ []; trimmed = 0; front = [] } ∷ epochs_opening 2
+misheard = record { ring = first_ring; members = 7; heard = message_of first_ring 4 2 first_head ∷ []; mark = 0; sent = first_head ∷ []; trimmed = 0; front = [] } ∷ history_opening_of 2
 
 -- It was in ring 4.1 with fewer members.
 abbrev pub smaller : List (Epoch Global)
-smaller = record { ring = first_ring; members = 3; heard = first_text; mark = 6; sent = first_head ∷ []; trimmed = 0; front = [] } ∷ epochs_opening 2
+smaller = record { ring = first_ring; members = 3; heard = first_text; mark = 6; sent = first_head ∷ []; trimmed = 0; front = [] } ∷ history_opening_of 2
 
 -- It handed over nothing in ring 4.1, where its Head was received.
 abbrev pub silent : List (Epoch Global)
-silent = record { ring = first_ring; members = 7; heard = first_text; mark = 6; sent = []; trimmed = 0; front = [] } ∷ epochs_opening 2
+silent = record { ring = first_ring; members = 7; heard = first_text; mark = 6; sent = []; trimmed = 0; front = [] } ∷ history_opening_of 2
 
 -- It went from ring 8.1 to ring 4.1.
 abbrev pub falling : List (Epoch Global)
-falling = two_first ∷ two_second ∷ epochs_opening 2
+falling = two_first ∷ two_second ∷ history_opening_of 2
 
 -- In ring 8.1 its Head states no last primary, though it has adopted ring 4.1.
 abbrev pub older_head : List (Epoch Global)
-older_head = in_second [] 0 (head_at None 1 0 ∷ []) ∷ two_first ∷ epochs_opening 2
+older_head = in_second [] 0 (head_at None 1 0 ∷ []) ∷ two_first ∷ history_opening_of 2
 
 -- In ring 8.1 its Head comes after a call.
 abbrev pub late_head : List (Epoch Global)
-late_head = in_second [] 0 (Call (call_by 9) ∷ head_at (Some first_ring) 1 0 ∷ []) ∷ two_first ∷ epochs_opening 2
+late_head = in_second [] 0 (Call (call_by 9) ∷ head_at (Some first_ring) 1 0 ∷ []) ∷ two_first ∷ history_opening_of 2
 
 -- A Part of it has a place that isn't in its log.
 abbrev pub wrong_part : List (Epoch Global)
-wrong_part = in_second [] 0 (head_at (Some first_ring) 1 0 ∷ part_at 0 (call_by 9 ∷ []) ∷ []) ∷ two_first ∷ epochs_opening 2
+wrong_part = in_second [] 0 (head_at (Some first_ring) 1 0 ∷ part_at 0 (call_by 9 ∷ []) ∷ []) ∷ two_first ∷ history_opening_of 2

@@ -1,6 +1,6 @@
 pub mod RingFacts
 pub mod Discipline
 pub mod Settled
-pub mod Time
+pub mod EpochEvents
 pub mod Examples
 pub mod Views

@@ -7,10 +7,10 @@ use Rattle.ring_base.specs.Prefixes.{IsListPrefix}
 use Rattle.ring_base.specs.Processors.{IsMember}
 use Rattle.ring_base.specs.declared.ring_id.RingId.{RingId}
 use Rattle.ring_payload.specs.declared.content.Payload.{Payload}
-use Rattle.ring_payload.specs.Kinds.{unpacked_payloads}
+use Rattle.ring_payload.specs.PayloadKinds.{unpacked_payloads}
 use Rattle.ring_log.specs.Messages.{Message}
 use Rattle.ring_log.specs.Epochs.{Epoch}
-use Rattle.ring_log.specs.EpochHistories.{upto}
+use Rattle.ring_log.specs.EpochHistories.{messages_upto}
 
 -- The epochs of one node
 
@@ -44,7 +44,7 @@ payloads_from p (x ∷ xs) = (if x.sender == p then unpacked_payloads x.payload 
 
 -- The messages of an epoch that are known to be safe.
 abbrev pub safe_part : {A : Type 0} → Epoch A → List (Message A)
-safe_part s = upto s.mark s.heard
+safe_part s = messages_upto s.mark s.heard
 
 -- Each member of the ring received these messages there, before all others.
 abbrev pub IsReceivedByAll : {A : Type 0} → (ℕ → List (Epoch A)) → RingId → ℕ → List (Message A) → Type 0

@@ -18,7 +18,7 @@ ghost use Rattle.ring_log_proof.specs.Examples.{wrong_part};
 /// places and the exchange are as listed.
 ///
 /// Rules: The replicated log 16; Outputs 11
-pub fn three_lives()
+pub fn epochs_of_three()
     ensures facts { RingFacts node_epochs members text }
     ensures discipline { KeepsDiscipline group_of_three node_epochs }
     ensures log_of_one { log_of group_of_three life_of_one ≡ call_by 7 ∷ call_by 9 ∷ [] }
@@ -44,7 +44,7 @@ pub fn three_lives()
 /// - `wrong_part`: its Part has a place that isn't in its log.
 ///
 /// Rules: Outputs 11; The replicated log 2
-pub fn wrong_lives()
+pub fn impossible_epochs()
     ensures missing_heads { RingFacts (lives_with missing_heads) members text → ⊥ }
     ensures misheard { RingFacts (lives_with misheard) members text → ⊥ }
     ensures smaller { RingFacts (lives_with smaller) members text → ⊥ }

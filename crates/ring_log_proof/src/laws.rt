@@ -27,8 +27,8 @@ ghost use Rattle.ring_log_proof.specs.RingFacts.{HasEpoch, EpochIn, Rises, AreAb
 ghost use Rattle.ring_log_proof.specs.Discipline.{ConsistentEpochs, KeepsDiscipline, DropsOnlyCommitted, DropsCommitted, HasOwnerSnapshots, KeepsRules};
 ghost use Rattle.ring_log_proof.specs.Settled.{IsSettled};
 ghost use Rattle.ring_log_proof.specs.Views.{IsView};
-ghost use Rattle.ring_log_proof.specs.Time.{IsEpochsExtended, EpochEvent, epochs_after_events, AllMayHappen, SendsOnlyKnown, SendsKnown};
-ghost use Rattle.ring_log_proof.specs.Time.{ConsistentMoment, IsOrderlyRun, last_of_run, committed_at};
+ghost use Rattle.ring_log_proof.specs.EpochEvents.{IsEpochsExtended, EpochEvent, epochs_after_events, AllMayHappen, SendsOnlyKnown, SendsKnown};
+ghost use Rattle.ring_log_proof.specs.EpochEvents.{ConsistentMoment, IsOrderlyRun, last_of_run, committed_at};
 
 use std::alloc::{Allocator, Global};
 
@@ -38,7 +38,7 @@ use std::alloc::{Allocator, Global};
 /// places. Epochs are consistent if they have the facts of the ring core and the nodes have kept their rules.
 ///
 /// Rules: The replicated log 2
-pub fn head_law<A: Allocator + Copy>()
+pub fn truthful_heads_law<A: Allocator + Copy>()
     ensures heads { (group : Group) (m : ConsistentEpochs A group) (r : RingId) (k : ℕ) (x : Message A) (head : Head) →
         slice_get (m.text r) k ≡ Some x → x.payload ≡ HeadPayload head →
         (at : EpochIn (m.node_epochs x.sender) r) × (head ≡ head_of_epochs group at.older) }
@@ -84,7 +84,7 @@ pub fn settled_law<A: Allocator + Copy>()
 /// consistent epochs.
 ///
 /// Rules: The replicated log 12, 16 and 17
-pub fn committed_law<A: Allocator + Copy>()
+pub fn committed_calls_law<A: Allocator + Copy>()
     ensures settled { (group : Group) (m : ConsistentEpochs A group) (p : ℕ) →
         (committed_of group (m.node_epochs p) ≡ []) ⊎ IsSettled group m.node_epochs m.members (committed_of group (m.node_epochs p)) }
     ensures front { (group : Group) (m : ConsistentEpochs A group) (p : ℕ) → IsListPrefix (committed_of group (m.node_epochs p)) (log_of group (m.node_epochs p)) }
@@ -126,7 +126,7 @@ pub fn adoption_law<A: Allocator + Copy>()
 /// places.
 ///
 /// Rules: The replicated log 1, 8 and 20
-pub fn kept_law<A: Allocator + Copy>()
+pub fn known_log_law<A: Allocator + Copy>()
     ensures rests { (group : Group) (epochs : List (Epoch A)) → is_sound group epochs ≡ true → DropsOnlyCommitted group epochs → IsView group epochs }
     ensures head { (group : Group) (epochs : List (Epoch A)) → is_sound group epochs ≡ true → DropsOnlyCommitted group epochs →
         known_log_head (known_log_of group epochs) ≡ head_of_epochs group epochs }
@@ -148,7 +148,7 @@ pub fn kept_law<A: Allocator + Copy>()
 /// are. The places of a snapshot are fixed once its ring's exchange is complete.
 ///
 /// Rules: The replicated log 4, 6 and 16
-pub fn fronts_law<A: Allocator + Copy>()
+pub fn snapshot_places_law<A: Allocator + Copy>()
     ensures stand { (group : Group) (node_epochs : ℕ → List (Epoch A)) → ((p : ℕ) → Rises (node_epochs p)) → (bounds : ℕ → ℕ) → AreAbove node_epochs bounds →
         HasOwnerSnapshots group (λ p. whole_epochs group node_epochs (bounds p) p) }
     ensures facts { (group : Group) (node_epochs : ℕ → List (Epoch A)) (members : RingId → ℕ) (text : RingId → List (Message A)) → RingFacts node_epochs members text →
@@ -167,7 +167,7 @@ pub fn fronts_law<A: Allocator + Copy>()
 /// committed places are in it. The law holds for all consistent epochs.
 ///
 /// Rules: The replicated log 10 and 11; Sessions 10
-pub fn issued_law<A: Allocator + Copy>()
+pub fn only_issued_calls_law<A: Allocator + Copy>()
     ensures logs { (group : Group) (m : ConsistentEpochs A group) (issued : List (Call A)) (p : ℕ) →
         SendsOnlyKnown (Contains issued) m.node_epochs → Each (Contains issued) (log_of group (m.node_epochs p)) }
     ensures committed { (group : Group) (m : ConsistentEpochs A group) (issued : List (Call A)) (p : ℕ) →
@@ -182,7 +182,7 @@ pub fn issued_law<A: Allocator + Copy>()
 /// then only issued calls were ever handed over. All places that were ever dropped are committed.
 ///
 /// Rules: The replicated log 2, 10 and 20
-pub fn epochs_law<A: Allocator + Copy>()
+pub fn events_extend_epochs_law<A: Allocator + Copy>()
     ensures goes_on { (group : Group) (epochs : List (Epoch A)) (events : List (EpochEvent A)) →
         AllMayHappen group epochs events → IsEpochsExtended epochs (epochs_after_events epochs events) }
     ensures discipline { (group : Group) (node_epochs after : ℕ → List (Epoch A)) (events : ℕ → List (EpochEvent A)) →
@@ -202,7 +202,7 @@ pub fn epochs_law<A: Allocator + Copy>()
 /// next. At each moment the committed calls of all nodes are prefixes of one list, and all have been issued.
 ///
 /// Rules: The replicated log 12 and 17; Sessions 10 and 11
-pub fn run_law<A: Allocator + Copy>()
+pub fn committed_calls_grow_law<A: Allocator + Copy>()
     ensures grows { (group : Group) (moment : ConsistentMoment A group) (rest : List (ConsistentMoment A group)) (p : ℕ) → IsOrderlyRun moment rest →
         IsListPrefix (committed_at moment p) (committed_at (last_of_run moment rest) p) }
     ensures one_list { (group : Group) (moment : ConsistentMoment A group) (processors : List ℕ) →
@@ -210,21 +210,21 @@ pub fn run_law<A: Allocator + Copy>()
     ensures issued { (group : Group) (moment : ConsistentMoment A group) (p : ℕ) → Each (Contains moment.issued) (committed_at moment p) }
 {}
 
-/// States a part of [`committed_law`] for the allocator that programs use. Nothing calls this function.
+/// States a part of [`committed_calls_law`] for the allocator that programs use. Nothing calls this function.
 ///
 /// A law is proved for all allocators that meet its bounds; this function shows that `Global` does.
 ///
 /// Rules: The replicated log 16
-pub fn laws_at_global()
+pub fn log_laws_at_global()
     ensures { (group : Group) (m : ConsistentEpochs Heap group) (p : ℕ) → IsListPrefix (committed_of group (m.node_epochs p)) (log_of group (m.node_epochs p)) }
 {
-    head_law::<Global>();
+    truthful_heads_law::<Global>();
     safe_log_persists_law::<Global>();
     settled_law::<Global>();
     adoption_law::<Global>();
-    kept_law::<Global>();
-    issued_law::<Global>();
-    epochs_law::<Global>();
-    run_law::<Global>();
-    committed_law::<Global>();
+    known_log_law::<Global>();
+    only_issued_calls_law::<Global>();
+    events_extend_epochs_law::<Global>();
+    committed_calls_grow_law::<Global>();
+    committed_calls_law::<Global>();
 }

@@ -3,7 +3,7 @@
 use refusing_alloc::{RefusingHeap, refuse_in_turn};
 use ring_base::{Fault, Proc, ProcSet, RingId};
 use ring_log::{Adoption, Base, Exchange, Log, Snapshot, Wanted, pieces_of};
-use ring_payload::{Call, Calls, Head, Part, Payload, Snap};
+use ring_payload::{Call, CallList, Head, Part, Payload, Snap};
 use std::alloc::{AllocError, Allocator, Global};
 
 /// A payload that a member sends to an exchange.
@@ -53,12 +53,12 @@ const SNAPSHOT: [Row; 13] = [
 ];
 
 /// Returns client 7's calls with the numbers `first` to `end` - 1.
-fn calls<A: Allocator + Copy>(alloc: A, first: u64, end: u64) -> Result<Calls<A>, Fault> {
+fn calls<A: Allocator + Copy>(alloc: A, first: u64, end: u64) -> Result<CallList<A>, Fault> {
     let mut calls = Vec::new(alloc);
     for number in first..end {
         calls.push(Call::new(alloc, 7, number, &[1, 1])?)?;
     }
-    Ok(Calls::from_vec(calls))
+    Ok(CallList::from_vec(calls))
 }
 
 /// Returns a Part of a log that has client 7's call of number p + 1 at place p.
@@ -198,7 +198,7 @@ fn append_calls_before<A: Allocator + Copy>(
     end: u64,
 ) -> Result<(), Fault> {
     let calls = calls(heap, 1, end)?;
-    match log.append_all(calls.as_slice()) {
+    match log.append_all_if_room(calls.as_slice()) {
         Ok(_) => Ok(()),
         Err(fault) => Err(fault),
     }
@@ -287,7 +287,7 @@ fn done_or_refused(heap: &RefusingHeap, work: Work) -> Result<(), AllocError> {
         (Err(Fault::Memory), true) => refused == 0,
         _ => false,
     };
-    heap.answer(is_right)
+    heap.expected_result(is_right)
 }
 
 /// The number of memory requests of the work, each refused once.

@@ -16,7 +16,7 @@ use Rattle.ring_log.specs.KnownLog.{known_log_of, is_known_log_sound}
 use Rattle.ring_replica.specs.NodeSpec.{epochs_after, is_restored}
 use Rattle.ring_replica.specs.Replications.{StepContext, due_sends_by, rises}
 use Rattle.ring_replica.specs.Replicas.{Replica, ReplicaStepResult, moment_of, replica_settled, replica_step}
-use Rattle.ring_node.specs.Given.{sending}
+use Rattle.ring_node.specs.StepOutputs.{step_with_frames}
 
 -- ---- frames before the other outputs
 
@@ -57,7 +57,7 @@ module _ {A : Type 0} {outs told : List (Out A)} {sends : List (OutgoingFrame A)
   rises-apart epochs t = sym (rises-behind epochs sends told) ∙ ap (rises epochs) (sym h.outs) ∙ t
 
   pub step-apart : {O : Type 0} (object : Sequential O) (running : Option RingId) (r : Replica A) → r.stopped ≡ false
-      → sending sends (replica_step object running r told) ≡ replica_step object running r outs
+      → step_with_frames sends (replica_step object running r told) ≡ replica_step object running r outs
   step-apart object running r runs =
       let of : List (Epoch A) → List (Payload A) → ReplicaStepResult A = λ epochs due.
       replica_settled object (is_known_log_sound r.group epochs && is_restored object (known_log_of r.group epochs)) r outs epochs due (known_log_of r.group epochs) in
@@ -66,7 +66,7 @@ module _ {A : Type 0} {outs told : List (Out A)} {sends : List (OutgoingFrame A)
       by (is_known_log_sound r.group epochs && is_restored object (known_log_of r.group epochs))
       ∙ ap (λ l. of l (due_sends_by m r.epochs told)) (epochs_after_event-apart r.epochs) ∙ ap (of (epochs_after r.epochs outs)) (due_sends-apart m r.epochs)
     where
-      by : (b : Bool) → sending sends (replica_settled object b r told (epochs_after r.epochs told) (due_sends_by (moment_of object running r) r.epochs told)
+      by : (b : Bool) → step_with_frames sends (replica_settled object b r told (epochs_after r.epochs told) (due_sends_by (moment_of object running r) r.epochs told)
           (known_log_of r.group (epochs_after r.epochs told)))
           ≡ replica_settled object b r outs (epochs_after r.epochs told) (due_sends_by (moment_of object running r) r.epochs told)
           (known_log_of r.group (epochs_after r.epochs told))

@@ -20,11 +20,11 @@ use Rattle.ring_srp.specs.Given.{IsGiven}
 use Rattle.ring_log.specs.Epochs.{Epoch, epochs_with_sends, epochs_with_trim}
 use Rattle.ring_log.specs.KnownLog.{KnownLog, known_log_of, is_known_log_sound}
 use Rattle.ring_log.proofs.CommittedOf.{epochs_with_sends-kept, epochs_with_trim-from}
-use Rattle.ring_replica.specs.Sessions.{TicketAnswer, unanswered}
+use Rattle.ring_replica.specs.Sessions.{TicketAnswer, unanswered_tickets}
 use Rattle.ring_replica.specs.NodeSpec.{epochs_after, Node, node_known_log, node_pending, is_stopped, is_closed, is_restored}
 use Rattle.ring_replica.specs.NodeSpec.{NodeStepResult, handed_over, drops, after_core, submit_fault}
 use Rattle.ring_replica.specs.Replications.{handed_if, due_sends_by, rises, HasSoundEpochs}
-use Rattle.ring_replica.specs.Replicas.{Replica, ReplicaStepResult, replica_stopped, replica_done, replica_ended, node_by, replica_settled}
+use Rattle.ring_replica.specs.Replicas.{Replica, ReplicaStepResult, replica_stopped, replica_done, replica_ended, node_of_core_and_replica, replica_settled}
 use Rattle.ring_replica.specs.Replicas.{replica_step, replica_of, running_of, moment_of, node_unless, submit_refusal, has_adopted_running}
 use Rattle.ring_replica.specs.Replicas.{replica_with_ticket, restored_since, IsBetweenSteps, IsStepIdle, replica_still}
 use Rattle.ring_replica.proofs.Nodes.{step-is, refused-is}
@@ -33,7 +33,7 @@ use Rattle.ring_replica.proofs.IdleReplicas.{still-ended}
 use Rattle.ring_replica.specs.Marks.{IsMarked}
 use Rattle.ring_replica.proofs.EpochMarks.{rises_step, marked_step, marked_handed, me_step, me_handed, going_step, going_handed}
 use Rattle.ring_node.proofs.FramesFiltered.{step-apart}
-use Rattle.ring_node.specs.Given.{sending, IsReplicaStepResult, IsNodeStepResult}
+use Rattle.ring_node.specs.StepOutputs.{step_with_frames, IsReplicaStepResult, IsNodeStepResult}
 use Rattle.ring_node.specs.KnownLog.{followed_by, core_view, node_view, IsRunningNode, IsNode, stepped_by}
 use Rattle.ring_node.specs.EmptyResults.{HasFramesOnly}
 use Rattle.ring_node.specs.Restores.{node_restored}
@@ -93,17 +93,17 @@ module _ {O A : Type 0} (object : Sequential O) (running : Option RingId) (r : R
 -- Following a core's outputs is the step that the definition says, with the frames that it sent
 module _ {O A : Type 0} (object : Sequential O) (core : Core A) (r : Replica A) (input : Input A) {new : Core A} {sends : List (OutgoingFrame A)} {told : List (Out A)}
     (en : new ≡ (ring_step core input).core) (given : IsGiven (ring_step core input).outs sends told) (runs : r.stopped ≡ false) where
-  followed-as : sending sends (followed_by object new r told) ≡ stepped_by object core r input
+  followed-as : step_with_frames sends (followed_by object new r told) ≡ stepped_by object core r input
   followed-as =
-      ap (λ (x : Core A). sending sends (followed_by object x r told)) en
+      ap (λ (x : Core A). step_with_frames sends (followed_by object x r told)) en
       ∙ step-apart given object (running_of (ring_step core input).core) r runs
 
   pub follows-step : {X E : Type 0} (result : Result X E) (after : Core A) (now : Replica A) (outs : Outs A)
-      → OnOk result (IsReplicaStepResult (sending sends (followed_by object new r told)) new after now outs)
+      → OnOk result (IsReplicaStepResult (step_with_frames sends (followed_by object new r told)) new after now outs)
       → OnOk result (IsReplicaStepResult (stepped_by object core r input) (ring_step core input).core after now outs)
   follows-step result after now outs h =
       subst (λ (s : ReplicaStepResult A). OnOk result (IsReplicaStepResult s (ring_step core input).core after now outs)) followed-as
-      (subst (λ (x : Core A). OnOk result (IsReplicaStepResult (sending sends (followed_by object new r told)) x after now outs)) en h)
+      (subst (λ (x : Core A). OnOk result (IsReplicaStepResult (step_with_frames sends (followed_by object new r told)) x after now outs)) en h)
 
 -- A replica whose step is idle needs no step on no outputs
 none-told : {A : Type 0} (told : List (Out A)) → length told ≡ 0 → told ≡ []
@@ -111,10 +111,10 @@ none-told [] e = refl
 none-told (o ∷ told) e = absurd (cc e)
 
 pub is_step_idle-on : {O A : Type 0} (object : Sequential O) (core : Core A) (r : Replica A) (told : List (Out A)) (outs : Outs A) → length told ≡ 0 → IsBetweenSteps r
-    → r.stopped ≡ false → HasFramesOnly outs → IsStepIdle object r → IsReplicaStepResult (sending outs.sends.items (followed_by object core r told)) core core r outs
+    → r.stopped ≡ false → HasFramesOnly outs → IsStepIdle object r → IsReplicaStepResult (step_with_frames outs.sends.items (followed_by object core r told)) core core r outs
 is_step_idle-on {A} object core r told outs none done runs frames is_step_idle =
     let step : followed_by object core r told ≡ replica_still r = ap (followed_by object core r) (none-told told none) ∙ is_step_idle (running_of core) in
-    subst (λ (s : ReplicaStepResult A). IsReplicaStepResult (sending outs.sends.items s) core core r outs) (sym step)
+    subst (λ (s : ReplicaStepResult A). IsReplicaStepResult (step_with_frames outs.sends.items s) core core r outs) (sym step)
     (record {
       sends = sym (cond-false r.stopped [] outs.sends.items runs);
       answers = frames.answers;
@@ -271,7 +271,7 @@ module _ {O A : Type 0} (object : Sequential O) (core : Core A) (r : Replica A) 
       (sym (me_step n.core input)))
 
   module _ (steady : HasSoundEpochs r.group r.epochs) where
-    step-here : after ≡ node_by n (ring_step n.core input).core (replica_step object (running_of (ring_step n.core input).core) (replica_of n) out)
+    step-here : after ≡ node_of_core_and_replica n (ring_step n.core input).core (replica_step object (running_of (ring_step n.core input).core) (replica_of n) out)
     step-here = step-is object n (ring_step n.core input) steady rises-here
 
     pub gives-step : {before new : Core A} {now : Replica A} {outs : Outs A}
@@ -310,7 +310,7 @@ fault-is {A} core r last ended k =
           (if nat_le 64 (length (node_pending n)) then Some PendingFull else if nat_le max_number (length n.tickets) then Some PendingFull else None)
           (stops-told core r ended t)
           ∙ sym (cond-true r.stopped (Some StoppedFault)
-          (if nat_le 64 (length (unanswered r.done r.tickets)) then Some PendingFull else if nat_le
+          (if nat_le 64 (length (unanswered_tickets r.done r.tickets)) then Some PendingFull else if nat_le
           max_number (length r.tickets) then Some PendingFull else None) t)
       | inr f ↦ refused-is n (going-told core r ended f (k.runs f)) ∙ ap submit_refusal (sym (same-replica core r ended f (k.runs f)))
     ]

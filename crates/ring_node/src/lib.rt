@@ -5,7 +5,7 @@
 //! Rules: Rings and states 6, 12 and 13; The replicated log 1, 8, 13 to 15, 18 and 20; Refusals 4 to 6
 #![tactic(auto)]
 
-mod driving;
+mod core_with_replica;
 mod node;
 mod outs;
 

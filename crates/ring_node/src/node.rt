@@ -1,6 +1,6 @@
 //! The node and its calls.
 //!
-//! `time_out` is a function of its own to keep its large stack slot out of its caller.
+//! `step_on_timeout` is a function of its own to keep its large stack slot out of its caller.
 //!
 //! Rules: Rings and states 3, 6, 12 and 13; The replicated log 8, 13 to 15, 18 and 20; Refusals 4 to 6
 
@@ -12,13 +12,13 @@ ghost use Rattle.ring_core_spec.specs.Stepping.{ring_step};
 ghost use Rattle.ring_core_spec.specs.declared.input.Input.TheVariants.{Frame as FrameInput, Timeout as TimeoutInput};
 ghost use Rattle.ring_replica.specs.Sessions.{pending_from};
 ghost use Rattle.ring_replica.specs.NodeSpec.{node_opening, node_known_log, node_length, node_trimmed, node_committed, node_reply, node_stopped};
-ghost use Rattle.ring_replica.specs.NodeSpec.{is_stopped, effects_at, after_core, node_step, submit_fault, submitted, InputFits};
-ghost use Rattle.ring_node.specs.Given.{IsNodeStepResult};
+ghost use Rattle.ring_replica.specs.NodeSpec.{is_stopped, effects_at, after_core, node_step, submit_fault, node_after_submit, InputFits};
+ghost use Rattle.ring_node.specs.StepOutputs.{IsNodeStepResult};
 ghost use Rattle.ring_node.specs.Restores.{node_restored};
 ghost use Rattle.ring_node.specs.EmptyResults.{IsEmptyResult};
 ghost use Rattle.ring_replica.specs.InputVariants.{Frame as ComesInput, Stop as StopInput};
 
-use crate::driving::{advance_by_frame, advance_by_time, running};
+use crate::core_with_replica::{advance_by_frame, advance_by_time, running_ring_of};
 use crate::outs::Outs;
 use ring_base::{Fault, Fixed, Ghost, Kind, Proc, ProcSet, RingId, State, ghost_now, pair_result};
 use ring_core_spec::{Configuration, Frame};
@@ -40,9 +40,9 @@ pub struct Node<O: Object> {
     core: Srp<O::Alloc>,
     replica: Replica<O>,
     /// The last installed ring with its members, at the time when the node stopped.
-    last: Configuration,
+    last_configuration: Configuration,
     /// The core before the step in which the node stopped.
-    ended: Ghost<Srp<O::Alloc>>,
+    core_before_stop: Ghost<Srp<O::Alloc>>,
 }
 
 impl<O: Object> Model for Node<O> {
@@ -51,9 +51,9 @@ impl<O: Object> Model for Node<O> {
 
     ghost Value = { ToldNode O.Alloc };
 
-    ghost view = { λ n. node_view n.core n.replica n.ended.value };
+    ghost view = { λ n. node_view n.core n.replica n.core_before_stop.value };
 
-    ghost invariant = { λ n. IsNode n.core n.replica n.last n.ended.value };
+    ghost invariant = { λ n. IsNode n.core n.replica n.last_configuration n.core_before_stop.value };
 }
 
 impl<O: Object> Node<O> {
@@ -71,14 +71,14 @@ impl<O: Object> Node<O> {
     {
         let core = Srp::new(alloc, fixed, me)?;
         let replica = Replica::new(alloc, fixed, me)?;
-        let last = core.installed();
-        let ended = ghost_now(&core);
+        let last_configuration = core.installed();
+        let core_before_stop = ghost_now(&core);
         Ok(Node {
             alloc,
             core,
             replica,
-            last,
-            ended,
+            last_configuration,
+            core_before_stop,
         })
     }
 
@@ -93,15 +93,15 @@ impl<O: Object> Node<O> {
         ensures ok { IfOk result (λ copy. copy ≡ self.now) }
         ensures refused { IfErr result (λ fault. fault ≡ Memory) }
     {
-        let ended = self.ended.clone()?;
+        let core_before_stop = self.core_before_stop.clone()?;
         let core = self.core.clone()?;
         let (core, replica) = pair_result(core, self.replica.copy())?;
         Ok(Node {
             alloc: self.alloc,
             core,
             replica,
-            last: self.last,
-            ended,
+            last_configuration: self.last_configuration,
+            core_before_stop,
         })
     }
 
@@ -119,11 +119,11 @@ impl<O: Object> Node<O> {
         requires fits { CallFits call }
         ensures ticket { IfOk result (λ ticket. ticket ≡ length self.old.tickets) }
         ensures taken { OnOk result (submit_fault self.old ≡ None) }
-        ensures ok { OnOk result (self.new ≡ submitted self.old call) }
+        ensures ok { OnOk result (self.new ≡ node_after_submit self.old call) }
         ensures err { OnErr result (self.new ≡ self.old) }
         ensures refused { IfErr result (λ fault. MatchOption (submit_fault self.old) (fault ≡ Memory) (λ first. fault ≡ first)) }
     {
-        self.submit_on(&call)
+        self.submit_borrowed(&call)
     }
 
     /// Submits a copy of a borrowed call and returns its ticket.
@@ -133,16 +133,16 @@ impl<O: Object> Node<O> {
     /// Errors: those of `submit`, in the same order. The node is unchanged by each.
     ///
     /// Rules: The replicated log 10 and 13; Refusals 4
-    pub fn submit_on(&mut self, call: &Call<O::Alloc>) -> Result<Ticket, Fault>
+    pub fn submit_borrowed(&mut self, call: &Call<O::Alloc>) -> Result<Ticket, Fault>
         requires fits { CallFits call.now }
         ensures ticket { IfOk result (λ ticket. ticket ≡ length self.old.tickets) }
         ensures taken { OnOk result (submit_fault self.old ≡ None) }
-        ensures ok { OnOk result (self.new ≡ submitted self.old call.now) }
+        ensures ok { OnOk result (self.new ≡ node_after_submit self.old call.now) }
         ensures err { OnErr result (self.new ≡ self.old) }
         ensures refused { IfErr result (λ fault. MatchOption (submit_fault self.old) (fault ≡ Memory) (λ first. fault ≡ first)) }
     {
-        self.check()?;
-        self.take(copy_of(call)?)
+        self.check_submit()?;
+        self.give_ticket(copy_of(call)?)
     }
 
     /// Runs one step on an input and returns its outputs.
@@ -205,13 +205,13 @@ impl<O: Object> Node<O> {
         match input {
             Input::Frame(frame) => self.receive_into(frame, outs),
             Input::Timeout(kind) => {
-                self.begin(outs)?;
-                self.time_out(*kind, outs)
+                self.begin_step(outs)?;
+                self.step_on_timeout(*kind, outs)
             }
-            Input::Noise => self.begin(outs),
+            Input::Noise => self.begin_step(outs),
             Input::Stop => {
-                self.begin(outs)?;
-                self.halt();
+                self.begin_step(outs)?;
+                self.stop_for_good();
                 Ok(())
             }
         }
@@ -241,8 +241,8 @@ impl<O: Object> Node<O> {
         ensures err { OnErr result (self.new ≡ node_stopped self.old) }
         ensures refused { IfErr result (λ fault. fault ≡ (if is_stopped self.old.core.state then StoppedFault else Memory)) }
     {
-        self.begin(outs)?;
-        self.receive(frame, outs)
+        self.begin_step(outs)?;
+        self.step_on_frame(frame, outs)
     }
 
     /// Returns the answer to a ticket if it is one of the last 64 that were answered here, otherwise `None`.
@@ -358,7 +358,7 @@ impl<O: Object> Node<O> {
         ensures { result ≡ self.now.core.installed }
     {
         if self.replica.is_stopped() {
-            self.last
+            self.last_configuration
         } else {
             self.core.installed()
         }
@@ -369,34 +369,34 @@ impl<O: Object> Node<O> {
     /// Does not allocate.
     ///
     /// Errors: `Stopped` or `PendingFull`, as for `submit`.
-    fn check(&self) -> Result<(), Fault>
+    fn check_submit(&self) -> Result<(), Fault>
         ensures ok { OnOk result (submit_fault self.now ≡ None) }
         ensures err { IfErr result (λ fault. submit_fault self.now ≡ Some fault) }
     {
-        self.replica.check()
+        self.replica.check_ticket_available()
     }
 
     /// Gives a call a ticket, and sends it at once if the node has adopted the running ring.
     ///
     /// Errors: `Memory` if an allocation fails; the node is unchanged.
-    fn take(&mut self, call: Call<O::Alloc>) -> Result<Ticket, Fault>
+    fn give_ticket(&mut self, call: Call<O::Alloc>) -> Result<Ticket, Fault>
         requires { submit_fault self.old ≡ None }
         ensures ticket { IfOk result (λ ticket. ticket ≡ length self.old.tickets) }
-        ensures ok { OnOk result (self.new ≡ submitted self.old call) }
+        ensures ok { OnOk result (self.new ≡ node_after_submit self.old call) }
         ensures err { OnErr result (self.new ≡ self.old) }
         ensures refused { IfErr result (λ fault. fault ≡ Memory) }
     {
-        let running = running(&self.core);
+        let running = running_ring_of(&self.core);
         if self.replica.has_adopted(&running) {
             self.core.send(Payload::Call(copy_of(&call)?))?;
         }
-        Ok(self.replica.give(&running, call))
+        Ok(self.replica.give_ticket(&running, call))
     }
 
     /// Empties the outputs for a step.
     ///
     /// Errors: `Stopped` if the node has stopped.
-    fn begin(&self, outs: &mut Outs<O::Alloc>) -> Result<(), Fault>
+    fn begin_step(&self, outs: &mut Outs<O::Alloc>) -> Result<(), Fault>
         ensures nothing { IsEmptyResult outs.new }
         ensures ok { OnOk result (is_stopped self.now.core.state ≡ false) }
         ensures err { OnErr result (is_stopped self.now.core.state ≡ true) }
@@ -412,7 +412,11 @@ impl<O: Object> Node<O> {
     /// Runs the step on a frame.
     ///
     /// Errors: `Memory` if an allocation fails; the node has then stopped.
-    fn receive(&mut self, frame: &Frame<O::Alloc>, outs: &mut Outs<O::Alloc>) -> Result<(), Fault>
+    fn step_on_frame(
+        &mut self,
+        frame: &Frame<O::Alloc>,
+        outs: &mut Outs<O::Alloc>,
+    ) -> Result<(), Fault>
         requires fits { FrameFits frame.now }
         requires empty { IsEmptyResult outs.old }
         requires runs { is_stopped self.old.core.state ≡ false }
@@ -421,8 +425,8 @@ impl<O: Object> Node<O> {
         ensures err { OnErr result (self.new ≡ node_stopped self.old) }
         ensures refused { IfErr result (λ fault. fault ≡ Memory) }
     {
-        self.last = self.core.installed();
-        self.ended = ghost_now(&self.core);
+        self.last_configuration = self.core.installed();
+        self.core_before_stop = ghost_now(&self.core);
         match advance_by_frame(&mut self.core, &mut self.replica, frame, outs) {
             Ok(()) => Ok(()),
             Err(refused) => {
@@ -438,7 +442,7 @@ impl<O: Object> Node<O> {
     ///
     /// Errors: `Memory` if an allocation fails; the node has then stopped.
     #[inline(never)]
-    fn time_out(&mut self, kind: Kind, outs: &mut Outs<O::Alloc>) -> Result<(), Fault>
+    fn step_on_timeout(&mut self, kind: Kind, outs: &mut Outs<O::Alloc>) -> Result<(), Fault>
         requires empty { IsEmptyResult outs.old }
         requires runs { is_stopped self.old.core.state ≡ false }
         ensures ok { OnOk result (IsNodeStepResult self.old (after_core O.sequential self.old (ring_step self.old.core (TimeoutInput kind))) self.new outs.new) }
@@ -446,8 +450,8 @@ impl<O: Object> Node<O> {
         ensures err { OnErr result (self.new ≡ node_stopped self.old) }
         ensures refused { IfErr result (λ fault. fault ≡ Memory) }
     {
-        self.last = self.core.installed();
-        self.ended = ghost_now(&self.core);
+        self.last_configuration = self.core.installed();
+        self.core_before_stop = ghost_now(&self.core);
         match advance_by_time(&mut self.core, &mut self.replica, kind, outs) {
             Ok(()) => Ok(()),
             Err(refused) => {
@@ -462,12 +466,12 @@ impl<O: Object> Node<O> {
     /// Stops the node for good, and frees the core's memory.
     ///
     /// Does not allocate.
-    fn halt(&mut self)
+    fn stop_for_good(&mut self)
         requires { is_stopped self.old.core.state ≡ false }
         ensures { self.new ≡ node_stopped self.old }
     {
-        self.last = self.core.installed();
-        self.ended = ghost_now(&self.core);
+        self.last_configuration = self.core.installed();
+        self.core_before_stop = ghost_now(&self.core);
         self.core.stop();
         self.replica.stop();
     }

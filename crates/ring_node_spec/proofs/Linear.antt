@@ -8,12 +8,12 @@ use Rattle.ring_base.specs.Prefixes.{IsListPrefix, prefix_get, prefix_append}
 use Rattle.ring_base.proofs.ListPlaces.{get-push}
 use Rattle.ring_session.specs.Objects.{Sequential}
 use Rattle.ring_core_spec.specs.Payloads.{Call}
-use Rattle.ring_session.specs.Deduplicated.{StandsAt, IsNumbered}
+use Rattle.ring_session.specs.Deduplicated.{IsCallAt, IsNumbered}
 use Rattle.ring_session.specs.SessionAnswer.{IsReplyIn}
 use Rattle.ring_session.specs.SessionAnswerLaws.{replied_front}
 use Rattle.ring_node_spec.specs.declared.item.Item.{Item}
 use Rattle.ring_node_spec.specs.declared.item.Item.TheVariants.{Issue, Reply}
-use Rattle.ring_node_spec.specs.Histories.{IsIssuedAt, IsRepliedAt, AreIssued, IsLinearization}
+use Rattle.ring_node_spec.specs.Histories.{IsIssuedAt, IsRepliedAt, AreCallsIssued, IsLinearization}
 
 -- an element of the whole at a place of a prefix is in the prefix
 pub front_back : {X : Type 0} (xs ys : List X) (k : ℕ) (x : X) → IsListPrefix xs ys → k < length xs → slice_get ys k ≡ Some x → slice_get xs k ≡ Some x
@@ -27,7 +27,7 @@ pub all-at : {X : Type 0} (P : X → Type 0) (xs : List X) (k : ℕ) (x : X) →
 all-at P xs k x all at = subst P (get_or_from_slice_get xs k x x at) (all k x (slice_get_within xs k x at))
 
 -- calls that were issued stay issued
-issued-more : {A : Type 0} (history more : List (Item A)) (calls : List (Call A)) → AreIssued history calls → AreIssued (history ++ more) calls
+issued-more : {A : Type 0} (history more : List (Item A)) (calls : List (Call A)) → AreCallsIssued history calls → AreCallsIssued (history ++ more) calls
 issued-more history more calls issued p c at =
     let there = issued p c at in
     (there.0, prefix_get history (history ++ more) there.0 (Issue c) (prefix_append history more) there.1)
@@ -44,7 +44,7 @@ module _ {O A : Type 0} (object : Sequential O) where
 
   -- the order may grow at its end by calls that were issued
   pub linear-grows : (order more : List (Call A)) (history : List (Item A)) → IsLinearization object order history
-      → IsListPrefix order more → IsNumbered more → AreIssued history more → IsLinearization object more history
+      → IsListPrefix order more → IsNumbered more → AreCallsIssued history more → IsLinearization object more history
   linear-grows order more history linear front numbered issued = record {
     numbered = numbered;
     issued = issued;
@@ -52,7 +52,7 @@ module _ {O A : Type 0} (object : Sequential O) where
     ordered = λ k a b r q at late stands.
         let there = linear.reply_items k a r at in
         let within = slice_get_within order there.0 a there.1 in
-        elim (cases_lt q (length order)) as (λ _. (p : ℕ) × StandsAt more p a × (p < q)) [
+        elim (cases_lt q (length order)) as (λ _. (p : ℕ) × IsCallAt more p a × (p < q)) [
           | inl inside ↦
               let first = linear.ordered k a b r q at late (front_back order more q b front inside stands) in
               (first.0, prefix_get order more first.0 a front first.1, first.2)
@@ -93,7 +93,7 @@ module _ {O A : Type 0} (object : Sequential O) where
     ordered = λ k a b s q at late stands.
         let late_before : (j : ℕ) → IsIssuedAt history b j → k < j = λ j there. late j
         (prefix_get history (history ++ Reply c r ∷ []) j (Issue b) (prefix_append history (Reply c r ∷ [])) there) in
-        elim (get-push history (Reply c r) k (Reply a s) at) as (λ _. (p : ℕ) × StandsAt order p a × (p < q)) [
+        elim (get-push history (Reply c r) k (Reply a s) at) as (λ _. (p : ℕ) × IsCallAt order p a × (p < q)) [
           | inl there ↦ linear.ordered k a b s q there late_before stands
           | inr last ↦
               let issued = linear.issued q b stands in

@@ -12,8 +12,8 @@ use Rattle.ring_session.specs.SessionAnswerLaws.{answered, replied_front}
 use Rattle.ring_log.proofs.LongerLists.{longer_list-either, longer_list-most}
 use Rattle.ring_node_spec.specs.declared.item.Item.{Item}
 use Rattle.ring_node_spec.specs.declared.item.Item.TheVariants.{Issue, Reply}
-use Rattle.ring_node_spec.specs.Histories.{IsIssuedAt, AreIssued, IsLinearization}
-use Rattle.ring_node_spec.specs.Orders.{longer_list, order_of, Moment, EachGrows, AreOneLog, IsReplyReportedAt, IsGiven, IsAdded, IsOrderStep, IsOrderRun, last_moment, opening}
+use Rattle.ring_node_spec.specs.Histories.{IsIssuedAt, AreCallsIssued, IsLinearization}
+use Rattle.ring_node_spec.specs.Orders.{longer_list, order_of, Moment, EachCommittedLogGrows, ArePrefixesOfOneLog, IsReplyReportedAt, IsReplyGiven, IsHistoryAddition, IsOrderStep, IsOrderRun, last_moment, opening}
 use Rattle.ring_node_spec.proofs.Linear.{all-at, linear-nothing, linear-grows, linear-issue, IsRight, linear-replies}
 
 -- the order is no longer than the log of which all committed calls are prefixes
@@ -43,17 +43,17 @@ order_of-numbered (calls ∷ rest) = longer_list-either IsNumbered (deduplicated
 
 -- each call of the order was issued, if each committed call was
 order_of-issued : {A : Type 0} (history : List (Item A)) (committed : List (List (Call A)))
-    → All (AreIssued history) committed → AreIssued history (order_of committed)
+    → All (AreCallsIssued history) committed → AreCallsIssued history (order_of committed)
 order_of-issued history [] issued = λ p c at. absurd (cc at)
 order_of-issued {A} history (calls ∷ rest) issued =
-    let first : AreIssued history calls = All-head (AreIssued history) calls rest issued in
-    longer_list-either (AreIssued history) (deduplicated calls) (order_of rest)
+    let first : AreCallsIssued history calls = All-head (AreCallsIssued history) calls rest issued in
+    longer_list-either (AreCallsIssued history) (deduplicated calls) (order_of rest)
     (λ p c at. let there = deduplicated-stands calls p c at in first there.0 c there.1)
-    (order_of-issued history rest (All-tail (AreIssued history) calls rest issued))
+    (order_of-issued history rest (All-tail (AreCallsIssued history) calls rest issued))
 
 -- the calls that take effect in a node's committed log are a prefix of the order
 pub order_of-fronts : {A : Type 0} (committed : List (List (Call A))) (node : ℕ) (calls : List (Call A))
-    → AreOneLog committed → slice_get committed node ≡ Some calls
+    → ArePrefixesOfOneLog committed → slice_get committed node ≡ Some calls
     → IsListPrefix (deduplicated calls) (order_of committed)
 order_of-fronts {A} committed node calls one at =
     prefix_shorter (deduplicated calls) (order_of committed) (deduplicated one.0)
@@ -63,7 +63,7 @@ order_of-fronts {A} committed node calls one at =
 -- ---- the order grows
 
 fronts-before : {A : Type 0} (log : List (Call A)) (committed after : List (List (Call A)))
-    → EachGrows committed after → All (λ calls. IsListPrefix calls log) after → All (λ calls. IsListPrefix calls log) committed
+    → EachCommittedLogGrows committed after → All (λ calls. IsListPrefix calls log) after → All (λ calls. IsListPrefix calls log) committed
 fronts-before {A} log [] after grows fronts = All-nil (λ (w : List (Call A)). IsListPrefix w log)
 fronts-before log (calls ∷ rest) [] grows fronts = absurd grows
 fronts-before {A} log (calls ∷ rest) (more ∷ others) grows fronts =
@@ -71,7 +71,7 @@ fronts-before {A} log (calls ∷ rest) (more ∷ others) grows fronts =
     All-cons IsFrontOf calls rest (prefix_trans calls more log grows.0 (All-head IsFrontOf more others fronts))
     (fronts-before log rest others grows.1 (All-tail IsFrontOf more others fronts))
 
-length-grows : {A : Type 0} (committed after : List (List (Call A))) → EachGrows committed after → length (order_of committed) ≤ length (order_of after)
+length-grows : {A : Type 0} (committed after : List (List (Call A))) → EachCommittedLogGrows committed after → length (order_of committed) ≤ length (order_of after)
 length-grows [] after grows = omega arith
 length-grows (calls ∷ rest) [] grows = absurd grows
 length-grows (calls ∷ rest) (more ∷ others) grows =
@@ -82,8 +82,8 @@ length-grows (calls ∷ rest) (more ∷ others) grows =
     (omega (arith, first, most.0)) (omega (arith, later, most.1))
 
 -- the order grows as the committed calls of the nodes do
-pub order_of-grows : {A : Type 0} (committed after : List (List (Call A))) → EachGrows committed after
-    → AreOneLog after → IsListPrefix (order_of committed) (order_of after)
+pub order_of-grows : {A : Type 0} (committed after : List (List (Call A))) → EachCommittedLogGrows committed after
+    → ArePrefixesOfOneLog after → IsListPrefix (order_of committed) (order_of after)
 order_of-grows committed after grows one =
     prefix_shorter (order_of committed) (order_of after) (deduplicated one.0)
     (order_of-front one.0 committed (fronts-before one.0 committed after grows one.1)) (order_of-front one.0 after one.1) (length-grows committed after grows)
@@ -96,41 +96,41 @@ order_of-opening zero = refl
 order_of-opening {A} (suc n) = ap (λ (w : List (Call A)). longer_list [] w) (order_of-opening n)
 
 -- at the opening the nodes agree
-pub opening-agrees : {A : Type 0} (n : ℕ) → AreOneLog (opening {A = A} n).committed
+pub opening-agrees : {A : Type 0} (n : ℕ) → ArePrefixesOfOneLog (opening {A = A} n).committed
 opening-agrees {A} n = ([], All-replicate (λ (w : List (Call A)). IsListPrefix w []) n [] ([], refl))
 
 module _ {O A : Type 0} (object : Sequential O) where
   -- a reply that a node gave is the object's at the call's place in the order
-  pub told-right : (committed : List (List (Call A))) (c : Call A) (r : List ℕ) → AreOneLog committed
+  pub told-right : (committed : List (List (Call A))) (c : Call A) (r : List ℕ) → ArePrefixesOfOneLog committed
       → IsReplyReportedAt object committed c r → IsReplyIn object (order_of committed) c r
   told-right committed c r one told =
       replied_front object (deduplicated told.calls) (order_of committed) c r (order_of-fronts committed told.node told.calls one told.committed_there)
       (answered object told.calls told.place c told.answer r told.stands told.answered told.brings)
 
-  given-right : (committed : List (List (Call A))) (item : Item A) → AreOneLog committed
-      → IsGiven object committed item → IsRight object (order_of committed) item
+  given-right : (committed : List (List (Call A))) (item : Item A) → ArePrefixesOfOneLog committed
+      → IsReplyGiven object committed item → IsRight object (order_of committed) item
   given-right committed (Issue c) one given = absurd given
   given-right committed (Reply c r) one given = told-right committed c r one given
 
   -- if only replies were added, what is issued was issued before
   issued_before : (committed : List (List (Call A))) (history items : List (Item A)) (c : Call A) (k : ℕ)
-      → All (IsGiven object committed) items → IsIssuedAt (history ++ items) c k → IsIssuedAt history c k
-  issued_before committed [] items c k given at = absurd (all-at (IsGiven object committed) items k (Issue c) given at)
+      → All (IsReplyGiven object committed) items → IsIssuedAt (history ++ items) c k → IsIssuedAt history c k
+  issued_before committed [] items c k given at = absurd (all-at (IsReplyGiven object committed) items k (Issue c) given at)
   issued_before committed (item ∷ history) items c zero given at = at
   issued_before committed (item ∷ history) items c (suc k) given at = issued_before committed history items c k given at
 
   step-added : (order more : List (Call A)) (committed : List (List (Call A))) (history items : List (Item A))
       → IsLinearization object order history → IsListPrefix order more → IsNumbered more
-      → AreIssued (history ++ items) more → ((item : Item A) → IsGiven object committed item → IsRight object more item)
-      → IsAdded object committed items → IsLinearization object more (history ++ items)
+      → AreCallsIssued (history ++ items) more → ((item : Item A) → IsReplyGiven object committed item → IsRight object more item)
+      → IsHistoryAddition object committed items → IsLinearization object more (history ++ items)
   step-added order more committed history items linear front numbered issued right added = elim added [
     | inl issue ↦
         let taken = linear-issue object order history issue.0 linear in
         linear-grows object order more (history ++ items) (subst (λ w. IsLinearization object order (history ++ w)) (sym issue.1) taken) front numbered issued
     | inr given ↦
-        let before : AreIssued history more = λ p c at. let there = issued p c at in (there.0, issued_before committed history items c there.0 given there.1) in
+        let before : AreCallsIssued history more = λ p c at. let there = issued p c at in (there.0, issued_before committed history items c there.0 given there.1) in
         linear-replies object more history items (linear-grows object order more history linear front numbered before)
-        (All-weaker (IsGiven object committed) (IsRight object more) right items given)
+        (All-weaker (IsReplyGiven object committed) (IsRight object more) right items given)
   ]
 
   -- a step that keeps the rules preserves that the order explains the history
@@ -142,7 +142,7 @@ module _ {O A : Type 0} (object : Sequential O) where
       subst (IsLinearization object (order_of after.committed)) step.added.1
       (step-added (order_of before.committed) (order_of after.committed) after.committed before.history items linear
       (order_of-grows before.committed after.committed step.grows step.agrees) (order_of-numbered after.committed)
-      (subst (λ w. AreIssued w (order_of after.committed)) (sym step.added.1) grown)
+      (subst (λ w. AreCallsIssued w (order_of after.committed)) (sym step.added.1) grown)
       (λ item given. given-right after.committed item step.agrees given) step.added.2)
 
   -- so does a run
@@ -166,6 +166,6 @@ module _ {O A : Type 0} (object : Sequential O) where
 
   -- the nodes still agree along a run
   pub agrees-run : (moment : Moment A) (rest : List (Moment A)) → IsOrderRun object moment rest
-      → AreOneLog moment.committed → AreOneLog (last_moment moment rest).committed
+      → ArePrefixesOfOneLog moment.committed → ArePrefixesOfOneLog (last_moment moment rest).committed
   agrees-run moment [] run agrees = agrees
   agrees-run moment (after ∷ rest) run agrees = agrees-run after rest run.1 run.0.agrees

@@ -18,12 +18,12 @@ use Rattle.ring_log.specs.declared.wanted.Wanted.{Wanted}
 use Rattle.ring_log.specs.Exchanges.{Exchange, exchange_opening, wanted, is_exchange_complete}
 use Rattle.ring_log.specs.Parts.{parts_between, pieces_of}
 use Rattle.ring_log.specs.Epochs.{Epoch}
-use Rattle.ring_log.specs.EpochHistories.{after_all}
+use Rattle.ring_log.specs.EpochHistories.{exchange_after_messages}
 use Rattle.ring_log.specs.KnownLog.{KnownLog, known_log_of, retained_log, known_log_head}
 use Rattle.ring_log.specs.Logs.{Log}
 use Rattle.ring_session.specs.Tickets.{TicketCall}
 use Rattle.ring_node_spec.specs.EpochHistories.{epochs_after_event}
-use Rattle.ring_node_spec.specs.Nodes.{Node, node_known_log, node_pending, snapshot_kept, runs}
+use Rattle.ring_node_spec.specs.Nodes.{Node, node_known_log, node_pending, snapshot_kept, is_core_running_in}
 
 -- due when a ring is installed: if it is primary, a Head of the log before it
 abbrev pub due_at_regular : {A : Type 0} → Group → ℕ → List (Epoch A) → List (Payload A)
@@ -74,14 +74,14 @@ abbrev pub calls_due : {A : Type 0} → List (TicketCall A) → List (OneCall A)
 calls_due pending base = map (λ (t : TicketCall _). Call t.call) (filter (λ (t : TicketCall _). not (contains_call base t)) pending)
 
 -- the places of a base past those committed before or by restoring
-abbrev pub places_past : {A : Type 0} → ℕ → Log A → List (OneCall A)
-places_past committed log = drop (max committed log.trimmed - log.trimmed) log.calls
+abbrev pub uncommitted_places : {A : Type 0} → ℕ → Log A → List (OneCall A)
+uncommitted_places committed log = drop (max committed log.trimmed - log.trimmed) log.calls
 
 -- due at the message that turns the exchange `old` into `new`, if it completes it; `epochs` are the node's after it
 abbrev pub due_when_complete : {A : Type 0} → Node A → List (Epoch A) → Exchange A → Exchange A → List (Payload A)
 due_when_complete n epochs old new =
     if is_exchange_complete new && not (is_exchange_complete old)
-    then calls_due (node_pending n) (places_past (node_known_log n).committed (retained_log (known_log_of n.group epochs)))
+    then calls_due (node_pending n) (uncommitted_places (node_known_log n).committed (retained_log (known_log_of n.group epochs)))
     else []
 
 -- The due payloads of outputs. The node is the one before the step, and the core the one after it: payloads are due only in a
@@ -100,24 +100,24 @@ module _ {O : Type 0} (object : Sequential O) where
   abbrev pub due_in_epoch : {A : Type 0} → Node A → Epoch A → List (Epoch A) → Message A → List (Epoch A) → List (Payload A)
   due_in_epoch n s before x epochs =
       if is_primary n.group s.members
-      then due_between n before epochs (after_all (exchange_opening s.members) s.heard) (after_all (exchange_opening s.members) (s.heard ++ x ∷ []))
+      then due_between n before epochs (exchange_after_messages (exchange_opening s.members) s.heard) (exchange_after_messages (exchange_opening s.members) (s.heard ++ x ∷ []))
       else []
 
   -- due at a message of a node's newest epoch; nothing unless the core is Operational in this ring
   abbrev pub due_at_agreed : {A : Type 0} → Node A → Core A → RingId → List (Epoch A) → Message A → List (Epoch A) → List (Payload A)
   due_at_agreed n core ring [] x epochs = []
-  due_at_agreed n core ring (s ∷ older) x epochs = if runs core ring then due_in_epoch n s (s ∷ older) x epochs else []
+  due_at_agreed n core ring (s ∷ older) x epochs = if is_core_running_in core ring then due_in_epoch n s (s ∷ older) x epochs else []
 
   -- due at an output, given the epochs before it
-  abbrev pub due_at : {A : Type 0} → Node A → Core A → List (Epoch A) → Out A → List (Payload A)
-  due_at n core epochs (Agreed ring k x) = due_at_agreed n core ring epochs x (epochs_after_event epochs (Agreed ring k x))
-  due_at n core epochs (Regular ring set) = due_at_regular n.group set epochs
-  due_at n core epochs (Send to frame) = []
-  due_at n core epochs (Safe ring upto) = []
-  due_at n core epochs (Trans old new set) = []
-  due_at n core epochs (Rest ring k x) = []
+  abbrev pub due_at_output : {A : Type 0} → Node A → Core A → List (Epoch A) → Out A → List (Payload A)
+  due_at_output n core epochs (Agreed ring k x) = due_at_agreed n core ring epochs x (epochs_after_event epochs (Agreed ring k x))
+  due_at_output n core epochs (Regular ring set) = due_at_regular n.group set epochs
+  due_at_output n core epochs (Send to frame) = []
+  due_at_output n core epochs (Safe ring upto) = []
+  due_at_output n core epochs (Trans old new set) = []
+  due_at_output n core epochs (Rest ring k x) = []
 
   -- due at outputs, in their order
-  abbrev pub due_by : {A : Type 0} → Node A → Core A → List (Epoch A) → List (Out A) → List (Payload A)
-  due_by n core epochs [] = []
-  due_by n core epochs (o ∷ outs) = due_at n core epochs o ++ due_by n core (epochs_after_event epochs o) outs
+  abbrev pub due_of_outputs : {A : Type 0} → Node A → Core A → List (Epoch A) → List (Out A) → List (Payload A)
+  due_of_outputs n core epochs [] = []
+  due_of_outputs n core epochs (o ∷ outs) = due_at_output n core epochs o ++ due_of_outputs n core (epochs_after_event epochs o) outs

@@ -15,12 +15,12 @@ pub use Rattle.ring_core_spec.specs.State.{is_stopped}
 use Rattle.ring_log.specs.EpochHistories.{complete_exchange}
 use Rattle.ring_log.specs.KnownLog.{KnownLog, known_log_of, known_log_length, retained_log}
 use Rattle.ring_log.specs.Logs.{committed_calls}
-use Rattle.ring_log.specs.Epochs.{Epoch, epochs_opening}
+use Rattle.ring_log.specs.Epochs.{Epoch, history_opening_of}
 use Rattle.ring_session.specs.Snapshots.{table_snapshot, restored_table}
 use Rattle.ring_session.specs.Table.{Table, opening as table_opening, table_next}
 use Rattle.ring_session.specs.TicketEffects.{done_after, table_effects}
-use Rattle.ring_session.specs.declared.answered.TicketAnswer.{TicketAnswer}
-use Rattle.ring_session.specs.Tickets.{TicketCall, unanswered, kept_answers, answer_to}
+use Rattle.ring_session.specs.declared.ticket_answer.TicketAnswer.{TicketAnswer}
+use Rattle.ring_session.specs.Tickets.{TicketCall, unanswered_tickets, kept_answers, ticket_answer_in}
 
 -- a node, with its epochs and all that was ever submitted to it, done and answered
 pub record Node (A : Type 0) : Type 0 where
@@ -36,7 +36,7 @@ pub record Node (A : Type 0) : Type 0 where
 
 -- processor `me` of the group at the opening
 abbrev pub node_opening : {A : Type 0} → Group → ℕ → Node A
-node_opening group me = record { group = group; core = opening group.count me; epochs = epochs_opening me; tickets = []; done = []; answers = [] }
+node_opening group me = record { group = group; core = opening group.count me; epochs = history_opening_of me; tickets = []; done = []; answers = [] }
 
 -- the known log of a node
 abbrev pub node_known_log : {A : Type 0} → Node A → KnownLog A
@@ -56,31 +56,31 @@ node_committed n = committed_calls (retained_log (node_known_log n))
 
 -- the tickets without an answer
 abbrev pub node_pending : {A : Type 0} → Node A → List (TicketCall A)
-node_pending n = unanswered n.done n.tickets
+node_pending n = unanswered_tickets n.done n.tickets
 
 -- the answer to a ticket, if it is one of the last 64 answered
 abbrev pub node_reply : {A : Type 0} → Node A → ℕ → Option Answer
-node_reply n ticket = answer_to ticket (kept_answers n.answers)
+node_reply n ticket = ticket_answer_in ticket (kept_answers n.answers)
 
 -- Its session table
 
 module _ {O : Type 0} (object : Sequential O) where
   -- the table that a snapshot restores, or the initial one; in every run there is one
-  abbrev pub table_or : Option (Table O) → Table O
-  table_or None = table_opening object.initial
-  table_or (Some table) = table
+  abbrev pub restored_table_or : Option (Table O) → Table O
+  restored_table_or None = table_opening object.initial
+  restored_table_or (Some table) = table
 
   -- the table before the known places: the initial one, or the one restored
   abbrev pub table_before : {A : Type 0} → KnownLog A → Table O
-  table_before k = if k.from == 0 then table_opening object.initial else table_or (restored_table object.restored k.snapshot)
+  table_before k = if k.from == 0 then table_opening object.initial else restored_table_or (restored_table object.restored k.snapshot)
 
   -- the table after the first `places` places
-  abbrev pub table_at : {A : Type 0} → KnownLog A → ℕ → Table O
-  table_at k places = fold (table_next object) (table_before k) (take (places - k.from) k.calls)
+  abbrev pub table_after_places : {A : Type 0} → KnownLog A → ℕ → Table O
+  table_after_places k places = fold (table_next object) (table_before k) (take (places - k.from) k.calls)
 
   -- the snapshot after the first `places` places
   abbrev pub snapshot_at : {A : Type 0} → KnownLog A → ℕ → List ℕ
-  snapshot_at k places = table_snapshot object.snapshot_of (table_at k places)
+  snapshot_at k places = table_snapshot object.snapshot_of (table_after_places k places)
 
   -- the snapshot that a node keeps of the places that it has dropped: the bytes that it restored, if it dropped none since
   abbrev pub snapshot_kept : {A : Type 0} → KnownLog A → List ℕ
@@ -112,14 +112,14 @@ is_closed group [] = true
 is_closed group (s ∷ older) = not (is_primary group s.members) || is_some (complete_exchange group s.members s.heard)
 
 -- the core is Operational in this ring
-abbrev pub runs : {A : Type 0} → Core A → RingId → Bool
-runs c ring = is_operational c.state && same_ring c.installed.ring ring
+abbrev pub is_core_running_in : {A : Type 0} → Core A → RingId → Bool
+is_core_running_in c ring = is_operational c.state && same_ring c.installed.ring ring
 
 -- there is such a ring, and the core is Operational in it
-abbrev pub runs_some : {A : Type 0} → Core A → Option RingId → Bool
-runs_some c None = false
-runs_some c (Some ring) = runs c ring
+abbrev pub is_running_ring : {A : Type 0} → Core A → Option RingId → Bool
+is_running_ring c None = false
+is_running_ring c (Some ring) = is_core_running_in c ring
 
 -- the core is Operational in a primary ring whose exchange the node adopted
 abbrev pub runs_adopted : {A : Type 0} → Node A → Bool
-runs_adopted n = runs_some n.core (node_known_log n).last
+runs_adopted n = is_running_ring n.core (node_known_log n).last

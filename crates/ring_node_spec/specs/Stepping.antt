@@ -17,14 +17,14 @@ use Rattle.ring_log.specs.KnownLog.{KnownLog, known_log_of, retained_log, is_kno
 use Rattle.ring_log.specs.Logs.{committed_calls, is_due_to_trim}
 use Rattle.ring_log.specs.Epochs.{Epoch, epochs_with_sends, epochs_with_trim}
 use Rattle.ring_session.specs.Table.{Table}
-pub use Rattle.ring_session.specs.declared.answered.TicketAnswer.{TicketAnswer}
+pub use Rattle.ring_session.specs.declared.ticket_answer.TicketAnswer.{TicketAnswer}
 use Rattle.ring_session.specs.Tickets.{answers_after}
 use Rattle.ring_node_spec.specs.declared.input.Input.{Input}
 use Rattle.ring_node_spec.specs.declared.input.Input.TheVariants.{Frame, Noise, Timeout, Stop}
 use Rattle.ring_node_spec.specs.EpochHistories.{epochs_after}
 use Rattle.ring_node_spec.specs.Nodes.{Node, node_known_log, node_pending, node_stopped, is_stopped, runs_adopted, is_closed}
-use Rattle.ring_node_spec.specs.Nodes.{table_before, table_at, snapshot_at, is_restored}
-use Rattle.ring_node_spec.specs.DueSends.{due_by}
+use Rattle.ring_node_spec.specs.Nodes.{table_before, table_after_places, snapshot_at, is_restored}
+use Rattle.ring_node_spec.specs.DueSends.{due_of_outputs}
 
 -- Handing over
 
@@ -67,15 +67,15 @@ module _ {O : Type 0} (object : Sequential O) where
   drops closed k = closed && is_due_to_trim (retained_log k) && nat_le (length (snapshot_at object k k.committed)) max_snapshot
 
   -- the end of a step: the committed places are dropped if they are due
-  abbrev pub ended : {A : Type 0} → Bool → KnownLog A → NodeStepResult A → NodeStepResult A
-  ended closed k s =
+  abbrev pub step_after_trim : {A : Type 0} → Bool → KnownLog A → NodeStepResult A → NodeStepResult A
+  step_after_trim closed k s =
       if drops closed k
       then record s { node = with_dropped k.committed s.node; dropped = committed_calls (retained_log k) }
       else s
 
   -- the session table before the newly committed calls: the old one, or the one restored
   abbrev pub table_since : {A : Type 0} → KnownLog A → KnownLog A → Table O
-  table_since old new = if nat_lt old.trimmed new.trimmed then table_before object new else table_at object old old.committed
+  table_since old new = if nat_lt old.trimmed new.trimmed then table_before object new else table_after_places object old old.committed
 
   -- a step by which the node did these calls and gave these answers
   abbrev pub answered_by : {A : Type 0} → Node A → Node A → List (Out A) → List (TicketAnswer A) → List (OneCall A) → NodeStepResult A
@@ -96,18 +96,18 @@ module _ {O : Type 0} (object : Sequential O) where
   -- sound after a base that lacks committed places, or whose snapshot can't be restored, and if it is too long.
   abbrev pub settled : {A : Type 0} → Bool → Node A → Node A → List (Out A) → KnownLog A → NodeStepResult A
   settled false old new outs k = empty_step (node_stopped old)
-  settled true old new outs k = ended (is_closed old.group new.epochs) k (did old new outs k (newly_committed (node_known_log old) k))
+  settled true old new outs k = step_after_trim (is_closed old.group new.epochs) k (did old new outs k (newly_committed (node_known_log old) k))
 
   -- the step of a node whose core ran its step: its epochs are extended by the outputs, and the due payloads are handed
   -- over
-  abbrev pub moved : {A : Type 0} → Node A → Core A → List (Out A) → List (Epoch A) → NodeStepResult A
-  moved n core outs epochs =
+  abbrev pub step_after_core : {A : Type 0} → Node A → Core A → List (Out A) → List (Epoch A) → NodeStepResult A
+  step_after_core n core outs epochs =
       settled (is_known_log_sound n.group epochs && is_restored object (known_log_of n.group epochs)) n
-      (node_after_outputs n core epochs (due_by object n core n.epochs outs)) outs (known_log_of n.group epochs)
+      (node_after_outputs n core epochs (due_of_outputs object n core n.epochs outs)) outs (known_log_of n.group epochs)
 
   -- the step of a node, given its core's step
   abbrev pub after_core : {A : Type 0} → Node A → StepResult A → NodeStepResult A
-  after_core n s = moved n s.core s.outs (epochs_after n.epochs s.outs)
+  after_core n s = step_after_core n s.core s.outs (epochs_after n.epochs s.outs)
 
   -- the step of a node on an input: a frame and a timeout are steps of the core, noise changes nothing, and a stop is for good
   abbrev pub node_step : {A : Type 0} → Node A → Input A → NodeStepResult A
@@ -132,8 +132,8 @@ abbrev pub due_by_submit : {A : Type 0} → Node A → OneCall A → List (Paylo
 due_by_submit n c = if runs_adopted n then Call c ∷ [] else []
 
 -- the node after a submit: the call has the next ticket
-abbrev pub submitted : {A : Type 0} → Node A → OneCall A → Node A
-submitted n c =
+abbrev pub node_after_submit : {A : Type 0} → Node A → OneCall A → Node A
+node_after_submit n c =
     record n {
       core = handed_over n.core (due_by_submit n c);
       epochs = epochs_with_sends (due_by_submit n c) n.epochs;

@@ -6,17 +6,17 @@
 //! Rules: The replicated log 1, 2, 7 to 10, 12 to 15, 18 and 20; Sessions 9 to 11; The book and the threads 1 to 6
 #![tactic(auto)]
 
+mod client_report;
 mod event;
 pub mod input;
 mod item;
-mod laws;
+mod linearization_laws;
 mod noise;
-mod told;
 
+pub use client_report::Told;
 pub use event::Event;
 pub use input::Input;
 pub use item::Item;
-pub use laws::{linearization_law, order_law};
+pub use linearization_laws::{linearization_law, run_order_law};
 pub use noise::Noise;
 pub use ring_core_spec::{Out, OutgoingFrame};
-pub use told::Told;

@@ -7,13 +7,13 @@
 ghost use Rattle.std.specs.Prelude.{◌≡◌, length, [], ◌∷◌, None, Some, drop, map};
 ghost use Rattle.std.specs.declared.alloc.Global.{Global};
 ghost use Rattle.ring_session.specs.declared.answer.Answer.TheVariants.{Done};
-ghost use Rattle.ring_session.specs.declared.answered.TicketAnswer.{TicketAnswer};
+ghost use Rattle.ring_session.specs.declared.ticket_answer.TicketAnswer.{TicketAnswer};
 ghost use Rattle.ring_node_spec.specs.Nodes.{node_committed, node_pending, node_reply, node_snapshot, node_trimmed};
 ghost use Rattle.ring_node_spec.specs.Worlds.{committed_in, order};
-ghost use Rattle.ring_node_spec_examples.specs.Rows.{world_of, call_of_seven, done_at, kept_at, nine_answers, refused_at, one_too_many};
-ghost use Rattle.ring_node_spec_examples.specs.Rows.{late_submit, late_timeout, strange_events, shown, sent_one, answered_one};
-ghost use Rattle.ring_node_spec_examples.specs.Rows.{sent_again, answered_again, sent_nine, answered_nine, answered_three};
-ghost use Rattle.ring_node_spec_examples.specs.Rows.{counter, after_lots, snapshot_of_seven, two_after, joined_after, asked_after, known_there};
+ghost use Rattle.ring_node_spec_examples.specs.ExampleRuns.{world_of, call_of_seven, done_at, kept_at, nine_answers, refused_at, one_too_many};
+ghost use Rattle.ring_node_spec_examples.specs.ExampleRuns.{late_submit, late_timeout, strange_events, lengths_of_nodes, sent_one, answered_one};
+ghost use Rattle.ring_node_spec_examples.specs.ExampleRuns.{sent_again, answered_again, sent_nine, answered_nine, answered_three};
+ghost use Rattle.ring_node_spec_examples.specs.ExampleRuns.{counter, after_lots, snapshot_of_seven, two_nodes_after_batches, joined_after, asked_after, known_there};
 
 /// States a worked example of one node, whose log gets a call at a visit, and commits and answers it at the next one.
 ///
@@ -21,9 +21,9 @@ ghost use Rattle.ring_node_spec_examples.specs.Rows.{counter, after_lots, snapsh
 ///
 /// Rules: The replicated log 11, 12 and 14
 /// Formats: first reply
-pub fn ring_of_one()
-    ensures sent { shown sent_one 1 ≡ (0, 1) ∷ [] }
-    ensures answered { shown answered_one 1 ≡ (1, 1) ∷ [] }
+pub fn example_ring_of_one()
+    ensures sent { lengths_of_nodes sent_one 1 ≡ (0, 1) ∷ [] }
+    ensures answered { lengths_of_nodes answered_one 1 ≡ (1, 1) ∷ [] }
     ensures told { answered_one.told ≡ done_at 1 1 ∷ [] }
     ensures untold { sent_one.told ≡ [] }
     ensures submitted { length sent_one.history ≡ 1 }
@@ -40,9 +40,9 @@ pub fn ring_of_one()
 ///
 /// Rules: The replicated log 11, 12 and 14
 /// Formats: nine calls in one visit
-pub fn nine_calls()
-    ensures sent { shown sent_nine 1 ≡ (0, 9) ∷ [] }
-    ensures answered { shown answered_nine 1 ≡ (9, 9) ∷ [] }
+pub fn example_nine_calls()
+    ensures sent { lengths_of_nodes sent_nine 1 ≡ (0, 9) ∷ [] }
+    ensures answered { lengths_of_nodes answered_nine 1 ≡ (9, 9) ∷ [] }
     ensures told { length answered_nine.told ≡ 9 }
     ensures answers { map (λ (a : TicketAnswer Global). (a.ticket, a.answer)) (answered_nine.nodes 1).answers ≡ nine_answers }
     ensures ordered { length (order answered_nine) ≡ 9 }
@@ -54,7 +54,7 @@ pub fn nine_calls()
 ///
 /// Rules: The replicated log 12 and 14
 pub fn ring_of_three()
-    ensures shown { shown answered_three 3 ≡ (1, 1) ∷ (1, 1) ∷ (1, 1) ∷ [] }
+    ensures shown { lengths_of_nodes answered_three 3 ≡ (1, 1) ∷ (1, 1) ∷ (1, 1) ∷ [] }
     ensures told { answered_three.told ≡ done_at 2 1 ∷ [] }
     ensures done { (answered_three.nodes 3).done ≡ call_of_seven 1 ∷ [] }
     ensures answers { (answered_three.nodes 3).answers ≡ [] }
@@ -67,11 +67,11 @@ pub fn ring_of_three()
 ///
 /// Rules: The replicated log 14; Sessions 3
 pub fn submitted_again()
-    ensures waiting { shown sent_again 1 ≡ (1, 2) ∷ [] }
+    ensures waiting { lengths_of_nodes sent_again 1 ≡ (1, 2) ∷ [] }
     ensures pending { length (node_pending (sent_again.nodes 1)) ≡ 1 }
     ensures done { (answered_again.nodes 1).done ≡ call_of_seven 1 ∷ call_of_seven 1 ∷ [] }
     ensures told { answered_again.told ≡ done_at 1 1 ∷ kept_at 1 1 ∷ [] }
-    ensures answered { shown answered_again 1 ≡ (2, 2) ∷ [] }
+    ensures answered { lengths_of_nodes answered_again 1 ≡ (2, 2) ∷ [] }
     ensures history { length answered_again.history ≡ 4 }
     ensures ordered { order answered_again ≡ call_of_seven 1 ∷ [] }
 {}
@@ -83,10 +83,10 @@ pub fn submitted_again()
 ///
 /// Rules: The replicated log 20
 /// Formats: dropped places
-pub fn dropped_places()
-    ensures before { shown (after_lots 3) 1 ≡ (192, 192) ∷ [] }
+pub fn example_dropped_places()
+    ensures before { lengths_of_nodes (after_lots 3) 1 ≡ (192, 192) ∷ [] }
     ensures kept { node_trimmed ((after_lots 3).nodes 1) ≡ 0 }
-    ensures after { shown (after_lots 4) 1 ≡ (256, 256) ∷ [] }
+    ensures after { lengths_of_nodes (after_lots 4) 1 ≡ (256, 256) ∷ [] }
     ensures dropped { node_trimmed ((after_lots 4).nodes 1) ≡ 256 }
     ensures undropped { node_committed ((after_lots 4).nodes 1) ≡ [] }
     ensures snapshot { node_snapshot counter ((after_lots 4).nodes 1) ≡ snapshot_of_seven }
@@ -104,7 +104,7 @@ pub fn dropped_places()
 ///
 /// Rules: The replicated log 6, 14 and 20
 pub fn restored_snapshot()
-    ensures away { shown (two_after 4).world 3 ≡ (256, 256) ∷ (256, 256) ∷ (0, 0) ∷ [] }
+    ensures away { lengths_of_nodes (two_nodes_after_batches 4).world 3 ≡ (256, 256) ∷ (256, 256) ∷ (0, 0) ∷ [] }
     ensures known { known_there (joined_after 60) ≡ 256 ∷ 256 ∷ 256 ∷ 256 ∷ 0 ∷ [] }
     ensures snapshot { node_snapshot counter ((joined_after 60).world.nodes 3) ≡ snapshot_of_seven }
     ensures whole { map length (committed_in (joined_after 60).world) ≡ 256 ∷ 256 ∷ 256 ∷ [] }
@@ -118,7 +118,7 @@ pub fn restored_snapshot()
 /// that wasn't sent, change nothing.
 ///
 /// Rules: The replicated log 13; The book and the threads 4
-pub fn refused_submits()
+pub fn example_refused_submits()
     ensures full { one_too_many.told ≡ refused_at 1 65 2 ∷ [] }
     ensures stopped { late_submit.told ≡ refused_at 1 1 8 ∷ [] }
     ensures unsubmitted { late_submit.history ≡ [] }

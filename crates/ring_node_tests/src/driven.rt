@@ -126,7 +126,7 @@ impl<O: Object> DrivenNode<O> {
         if number == 1 {
             self.node.submit(call)
         } else {
-            self.node.submit_on(&call)
+            self.node.submit_borrowed(&call)
         }
     }
 

@@ -82,7 +82,7 @@ fn refusals<O: Object>(heap: O::Alloc, ample: O::Alloc) -> Result<u64, Fault> {
 
 /// The probe for `refuse_in_turn`: a run is right if it reports one refusal after a refused request, and none otherwise.
 fn told(heap: &RefusingHeap, refusals: Result<u64, Fault>) -> Result<(), AllocError> {
-    heap.answer(refusals == Ok(u64::from(heap.has_refused())))
+    heap.expected_result(refusals == Ok(u64::from(heap.has_refused())))
 }
 
 #[test]

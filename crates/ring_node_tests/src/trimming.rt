@@ -7,7 +7,7 @@ use refusing_alloc::RefusingHeap;
 use ring_base::{Fault, State};
 use ring_object::Object;
 use ring_session::{Answer, Ticket};
-use ring_things::{Counters, Outcome, reply_with};
+use ring_things::{Counters, Outcome, outcome_reply_with};
 use std::alloc::Global;
 use std::test::Fail;
 
@@ -70,11 +70,11 @@ fn trims<O: Object>(
     heap: &RefusingHeap,
 ) -> Result<(u64, u64, bool), Fault> {
     fill_almost_to_trim(driven)?;
-    let before = heap.requests();
+    let before = heap.request_count();
     let is_right = match driven.turn() {
         Ok(()) => {
             let trimmed = (State::Operational, 1, 256, 256, 256, 256);
-            let last = Answer::Done(reply_with(Outcome::Done, 256));
+            let last = Answer::Done(outcome_reply_with(Outcome::Done, 256));
             shown(driven) == (trimmed, ((256, 256), 256, 0))
                 && driven.node.reply(Ticket::new(255)) == Some(last)
         }
@@ -84,7 +84,7 @@ fn trims<O: Object>(
         }
         Err(_) => false,
     };
-    Ok((before, heap.requests(), is_right))
+    Ok((before, heap.request_count(), is_right))
 }
 
 /// Does the same with a new node whose memory is in `heap`.

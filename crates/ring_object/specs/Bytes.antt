@@ -9,8 +9,8 @@ abbrev pub AreBytes : List ℕ → Type 0
 AreBytes bytes = All (λ byte. byte < 256) bytes
 
 -- the element at each index is a byte, and 0 past the end
-pub bytes_everywhere : (bytes : List ℕ) → AreBytes bytes → (i : ℕ) → get_or bytes i 0 < 256
-bytes_everywhere bytes are i =
+pub AreBytes-get_or : (bytes : List ℕ) → AreBytes bytes → (i : ℕ) → get_or bytes i 0 < 256
+AreBytes-get_or bytes are i =
     elim (cases_lt i (length bytes)) [
       | inl within ↦ All-get_or (λ byte. byte < 256) bytes i 0 within are
       | inr past ↦ rw (get_or_past bytes i 0 past) (omega arith)

@@ -3,7 +3,7 @@
 use Rattle.std.proofs.Common.{◌≡◌, ℕ, ◌<◌, Bool, false, List, [], ◌∷◌, Option, Some, None, refl, arith}
 use Rattle.std.proofs.lemmas.List.Elements.{All-nil, All-cons}
 use Rattle.ring_object.specs.Bytes.{AreBytes}
-use Rattle.ring_object.specs.Operations.{Sequential, IsReply, unreadable}
+use Rattle.ring_object.specs.Operations.{Sequential, IsReply, unreadable_reply}
 use Rattle.ring_object.specs.Snapshots.{HasExactSnapshots}
 
 -- the only content
@@ -20,7 +20,7 @@ is_readable op = false
 
 -- the reply to any operation is the byte `FF`
 abbrev pub reply : Content → List ℕ → List ℕ
-reply content op = unreadable
+reply content op = unreadable_reply
 
 -- no operation changes the content
 abbrev pub next : Content → List ℕ → Content
@@ -36,13 +36,13 @@ restored [] = Some tt
 restored (byte ∷ bytes) = None
 
 -- the object as functions
-abbrev pub nothing : Sequential Content
-nothing = record { initial = tt; reply = reply; next = next; snapshot_of = snapshot_of; restored = restored }
+abbrev pub stateless_object : Sequential Content
+stateless_object = record { initial = tt; reply = reply; next = next; snapshot_of = snapshot_of; restored = restored }
 
 -- ---- the laws
 
 -- an operation that can't be read changes nothing
-pub ignores : (content : Content) (op : List ℕ) → is_readable op ≡ false → (reply content op ≡ unreadable) × (next content op ≡ content)
+pub ignores : (content : Content) (op : List ℕ) → is_readable op ≡ false → (reply content op ≡ unreadable_reply) × (next content op ≡ content)
 ignores content op unread = (refl, refl)
 
 -- each reply has at most 64 bytes

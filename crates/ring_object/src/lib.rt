@@ -7,16 +7,16 @@
 //! Rules: Objects 1 to 4
 #![tactic(auto)]
 
-mod copies;
-mod laws;
-mod nothing;
 mod object;
-mod short;
-mod sized;
+mod object_copies;
+mod object_laws;
+mod short_bytes;
+mod sized_snapshot;
+mod stateless_object;
 
-pub use copies::copy_by_snapshot;
-pub use laws::object_law;
-pub use nothing::StatelessObject;
 pub use object::Object;
-pub use short::{MAX_REPLY, Reply, ShortBytes};
-pub use sized::append_sized;
+pub use object_copies::copy_by_snapshot;
+pub use object_laws::object_law;
+pub use short_bytes::{MAX_REPLY, Reply, ShortBytes};
+pub use sized_snapshot::append_sized_snapshot;
+pub use stateless_object::StatelessObject;

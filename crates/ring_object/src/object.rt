@@ -5,10 +5,10 @@
 ghost use Rattle.std.specs.Prelude.{◌≡◌, ℕ, Bool, false, ◌^◌, ◌<◌, List, ◌++◌, length, Some, IfOk, IfErr, OnOk, OnErr};
 ghost use Rattle.ring_base.specs.declared.fault.Fault.TheVariants.{Memory};
 ghost use Rattle.ring_object.specs.Bytes.{AreBytes};
-ghost use Rattle.ring_object.specs.Operations.{IsReply, Sequential, unreadable};
+ghost use Rattle.ring_object.specs.Operations.{IsReply, Sequential, unreadable_reply};
 ghost use Rattle.ring_object.specs.Snapshots.{HasExactSnapshots, IsSnapshotRefusal};
 
-use crate::short::Reply;
+use crate::short_bytes::Reply;
 use ring_base::Fault;
 use std::alloc::Allocator;
 
@@ -94,7 +94,7 @@ pub trait Object: Sized + Drop {
 
     /// States that an operation that can't be read changes nothing and has the byte `FF` as its reply.
     ghost ignores: { (content : Self) (op : List ℕ) → is_readable op ≡ false →
-        (sequential.reply content op ≡ unreadable) × (sequential.next content op ≡ content) };
+        (sequential.reply content op ≡ unreadable_reply) × (sequential.next content op ≡ content) };
 
     /// States that exactly the snapshots of valid contents are restored, each to its content.
     ghost restores: { HasExactSnapshots is_content sequential.snapshot_of sequential.restored };

@@ -15,14 +15,14 @@ use Rattle.ring_core_spec.specs.declared.input.Input.{Input}
 use Rattle.ring_core_spec.specs.declared.input.Input.TheVariants.{Frame as FrameInput, Timeout as TimeInput}
 use Rattle.ring_core_spec.specs.declared.out.Out.{Out}
 use Rattle.ring_core_spec.specs.Stepping.{ring_step}
-use Rattle.ring_session.specs.declared.answered.TicketAnswer.{TicketAnswer}
-use Rattle.ring_session.specs.Tickets.{TicketCall, place_of, unanswered, is_place, answers_at, answers_after}
+use Rattle.ring_session.specs.declared.ticket_answer.TicketAnswer.{TicketAnswer}
+use Rattle.ring_session.specs.Tickets.{TicketCall, answering_place, unanswered_tickets, is_place, answers_at, answers_after}
 use Rattle.ring_session.proofs.TicketPlaces.{first_place-below, last_place, first_place-push}
 use Rattle.ring_node_spec.specs.declared.input.Input.{Input as NodeInput}
 use Rattle.ring_node_spec.specs.declared.input.Input.TheVariants.{Frame as NodeFrame, Noise as NodeNoise, Timeout as NodeTime, Stop as NodeStop}
 use Rattle.ring_node_spec.specs.EpochHistories.{epochs_after}
 use Rattle.ring_node_spec.specs.Nodes.{Node, node_known_log, node_pending, is_closed, is_restored}
-use Rattle.ring_node_spec.specs.DueSends.{due_by}
+use Rattle.ring_node_spec.specs.DueSends.{due_of_outputs}
 use Rattle.ring_node_spec.specs.Stepping.{NodeStepResult, with_dropped, newly_committed, drops, table_since, did, settled, node_after_outputs, after_core, node_step}
 use Rattle.ring_log.specs.KnownLog.{KnownLog, known_log_of, retained_log, is_known_log_sound}
 use Rattle.ring_log.specs.Logs.{committed_calls}
@@ -59,41 +59,41 @@ length_if None t ts = refl
 length_if (Some p) t ts = refl
 
 few_at : {A : Type 0} → (answer : Answer) (done : List (Call A)) (c : Call A) (ticket : ℕ) (ts : List (TicketCall A)) →
-    length (answers_at answer (done ++ c ∷ []) (length done) ticket ts) + length (unanswered (done ++ c ∷ []) ts) ≤ length (unanswered done ts)
+    length (answers_at answer (done ++ c ∷ []) (length done) ticket ts) + length (unanswered_tickets (done ++ c ∷ []) ts) ≤ length (unanswered_tickets done ts)
 few_at answer done c ticket [] = omega arith
 few_at {A} answer done c ticket (t ∷ ts) =
     let n = length done in
-    let o = place_of done t in
+    let o = answering_place done t in
     let last = last_place t.call t.since (0 + n) c in
     let told : List (TicketAnswer A) = record { ticket = ticket; call = t.call; answer = answer } ∷ [] in
     let behind = answers_at answer (done ++ c ∷ []) n (ticket + 1) ts in
-    let waits = length (unanswered (done ++ c ∷ []) ts) in
-    let waited = length (unanswered done ts) in
+    let waits = length (unanswered_tickets (done ++ c ∷ []) ts) in
+    let waited = length (unanswered_tickets done ts) in
     let here : length ((if is_place n (option_or o last) then told else []) ++ behind) + counted (option_or o last) waits ≤ counted o waited =
     one_ticket n o last told behind waits waited (λ p h. (let l = first_place-below t.call t.since 0 done p h in omega (arith, l)))
     (λ p h. (let l = last_is t.call t.since (0 + n) c p h in omega (arith, l))) (let one : length told ≡ 1 = refl in omega (arith, one))
     (few_at answer done c (ticket + 1) ts) in
-    let place = place_of (done ++ c ∷ []) t in
+    let place = answering_place (done ++ c ∷ []) t in
     let now : length ((if is_place n place then told else []) ++ behind) + counted place waits ≤ counted o waited =
     subst (λ (p : Option ℕ). length ((if is_place n p then told else []) ++ behind) + counted p waits ≤ counted o waited)
     (sym (first_place-push t.call t.since 0 done c)) here in
-    let a = length_if (place_of (done ++ c ∷ []) t) t (unanswered (done ++ c ∷ []) ts) in
-    let b = length_if o t (unanswered done ts) in
+    let a = length_if (answering_place (done ++ c ∷ []) t) t (unanswered_tickets (done ++ c ∷ []) ts) in
+    let b = length_if o t (unanswered_tickets done ts) in
     omega (arith, a, b, now)
 
 module _ {O A : Type 0} (object : Sequential O) where
   -- More calls
 
   pub few_more : (table : Table O) (tickets : List (TicketCall A)) (done more : List (Call A)) →
-      length (answers_after object table tickets done more) + length (unanswered (done ++ more) tickets) ≤ length (unanswered done tickets)
-  few_more table tickets done [] = (let e = ap (λ calls. length (unanswered calls tickets)) (append-nil done) in omega (arith, e))
+      length (answers_after object table tickets done more) + length (unanswered_tickets (done ++ more) tickets) ≤ length (unanswered_tickets done tickets)
+  few_more table tickets done [] = (let e = ap (λ calls. length (unanswered_tickets calls tickets)) (append-nil done) in omega (arith, e))
   few_more table tickets done (c ∷ more) =
       let now = answers_at (table_answer object table c) (done ++ c ∷ []) (length done) 0 tickets in
       let later = answers_after object (table_next object table c) tickets (done ++ c ∷ []) more in
       let a = few_at (table_answer object table c) done c 0 tickets in
       let b = few_more (table_next object table c) tickets (done ++ c ∷ []) more in
       let d = length-append now later in
-      let e = ap (λ calls. length (unanswered calls tickets)) (append_assoc done (c ∷ []) more) in
+      let e = ap (λ calls. length (unanswered_tickets calls tickets)) (append_assoc done (c ∷ []) more) in
       omega (arith, a, b, d, e)
 
   -- A step of a node
@@ -112,7 +112,7 @@ module _ {O A : Type 0} (object : Sequential O) where
   few_after n input =
       let s = ring_step n.core input in
       let epochs = epochs_after n.epochs s.outs in
-      few_if (is_known_log_sound n.group epochs && is_restored object (known_log_of n.group epochs)) n (node_after_outputs n s.core epochs (due_by object n s.core n.epochs s.outs)) s.outs
+      few_if (is_known_log_sound n.group epochs && is_restored object (known_log_of n.group epochs)) n (node_after_outputs n s.core epochs (due_of_outputs object n s.core n.epochs s.outs)) s.outs
       (known_log_of n.group epochs)
 
   pub few_answers : (n : Node A) (input : NodeInput A) → length (node_step object n input).answers ≤ length (node_pending n)

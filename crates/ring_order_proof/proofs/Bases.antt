@@ -10,7 +10,7 @@ use Rattle.ring_core_spec.specs.declared.input.Input.{Input}
 use Rattle.ring_core_spec.specs.Stepping.{ring_step}
 use Rattle.ring_log.specs.Epochs.{Epoch}
 use Rattle.ring_log.specs.KnownLog.{KnownLog, known_log_of, keeps_kept}
-use Rattle.ring_log.specs.EpochHistories.{CompleteExchange, upto, complete_exchange, ring_log_by, ring_log, filled, fronts_below}
+use Rattle.ring_log.specs.EpochHistories.{CompleteExchange, messages_upto, complete_exchange, ring_log_by, ring_log, epochs_with_snapshots, fronts_below}
 use Rattle.ring_node_spec.specs.EpochHistories.{epochs_after}
 use Rattle.ring_node_spec.specs.Nodes.{Node}
 use Rattle.ring_node_spec.specs.declared.event.Event.{Event}
@@ -22,7 +22,7 @@ use Rattle.ring_log_proof.proofs.FilledEpochs.{filled-there, kept-filled}
 use Rattle.ring_order_proof.specs.RunEpochs.{epochs_in, whole_epochs_in}
 use Rattle.ring_order_proof.proofs.DisciplinedWorlds.{lives_keep, tops}
 use Rattle.ring_order_proof.specs.RunFacts.{HasFacts}
-use Rattle.ring_order_proof.specs.Between.{MayCome, stepped_node, between}
+use Rattle.ring_order_proof.specs.MidStep.{MayCome, stepped_node, world_after_core_step}
 use Rattle.ring_order_proof.proofs.RunFacts.{all_facts}
 use Rattle.ring_order_proof.proofs.Between.{between_facts, between_rules}
 use Rattle.ring_order_proof.specs.Linear.{SafeLogPersists, ReachedLogPersists, BasesKeepCommitted}
@@ -53,13 +53,13 @@ module _ {O A : Type 0} (object : Sequential O) (group : Group) (few : group.cou
               sym (empty-log group (whole_epochs_in w) c (f.members c))
               ∙ ap (λ (xs : List (Message A)). ring_log group (whole_epochs_in w) c (f.members c) xs) (sym none) ∙ is in
               absurd (cc nothing)
-          | inr heard ↦ all c e (upto n (f.text c)) ys log whole below heard is front exch
+          | inr heard ↦ all c e (messages_upto n (f.text c)) ys log whole below heard is front exch
         ],
       )
 
   module _ (i : ℕ) (input : Input A) (node : is_node w i ≡ true) (may : MayCome w i input) where
     abbrev after : World A
-    after = between w i input
+    after = world_after_core_step w i input
 
     epochs-is : epochs_in after i ≡ epochs_after (w.nodes i).epochs (ring_step (w.nodes i).core input).outs
     epochs-is =
@@ -81,4 +81,4 @@ module _ {O A : Type 0} (object : Sequential O) (group : Group) (few : group.cou
         let own : HasEpoch (epochs_in after i) s older = subst (λ (l : List (Epoch A)). HasEpoch l s older) (sym epochs-is) there in
         subst (λ (k : KnownLog A). keeps_kept k s.ring (complete_exchange group s.members s.heard) ≡ true) (kept-filled fronts i group older)
         (keeps-known group (whole_epochs_in after) f.members f.text f.facts (between_rules object group events i input few node may) i (fill fronts i s)
-        (filled fronts i older) (filled-there fronts i (epochs_in after i) s older own))
+        (epochs_with_snapshots fronts i older) (filled-there fronts i (epochs_in after i) s older own))

@@ -13,7 +13,7 @@ use Rattle.ring_core_spec.specs.Stepping.{ring_step}
 use Rattle.ring_core_proof.specs.declared.event.RingEvent.{RingEvent}
 use Rattle.ring_core_proof.specs.declared.event.RingEvent.TheVariants.{Deliver, Timeout}
 use Rattle.ring_core_proof.specs.Worlds.{World as RingWorld, after_step, stepped_if, handed_if, handed}
-use Rattle.ring_core_proof.specs.Worlds.{happens, unformed}
+use Rattle.ring_core_proof.specs.Worlds.{world_after_event, unformed}
 use Rattle.ring_core_proof.proofs.KeptByMoves.{kept_step}
 use Rattle.ring_core_proof.proofs.Lifting.{cores-append}
 use Rattle.ring_synchrony_proof.proofs.Ordered.{Ordered, ordering}
@@ -21,12 +21,12 @@ use Rattle.ring_log.specs.EpochHistories.{whole_epochs}
 use Rattle.ring_log.specs.Epochs.{Epoch}
 use Rattle.ring_log_proof.specs.RingFacts.{Rises, AreAbove}
 use Rattle.ring_log_proof.specs.Discipline.{KeepsDiscipline, DropsOnlyCommitted, DropsCommitted, KeepsRules}
-use Rattle.ring_log_proof.specs.Time.{IsEpochsExtended, AllMayHappen}
+use Rattle.ring_log_proof.specs.EpochEvents.{IsEpochsExtended, AllMayHappen}
 use Rattle.ring_log_proof.proofs.RunEpochs.{IsOrderly, on-self, events-on, events-orderly, events-dropping}
 use Rattle.ring_log_proof.proofs.FilledEpochs.{rules-whole, filled-on}
 use Rattle.ring_node_spec.specs.Nodes.{Node}
 use Rattle.ring_node_spec.specs.declared.event.Event.{Event}
-use Rattle.ring_node_spec.specs.Worlds.{World, world_opening, put, is_node, run, epochs_in, whole_epochs_in}
+use Rattle.ring_node_spec.specs.Worlds.{World, world_opening, with_node, is_node, run, epochs_in, whole_epochs_in}
 use Rattle.ring_order_proof.specs.Projection.{ring_part, by, IsRingRun}
 use Rattle.ring_order_proof.proofs.ProjectedEvents.{ring_run}
 use Rattle.ring_core_spec.proofs.Quiet.{stepped_is}
@@ -35,7 +35,7 @@ use Rattle.ring_order_proof.proofs.DisciplinedNodes.{LivesBy, steps_by}
 use Rattle.ring_order_proof.proofs.DisciplinedWorlds.{IsNodeKept, opened_on, run_group, own_keep, own_drop, below_above, tops}
 use Rattle.ring_order_proof.proofs.SendOrdersOfNodes.{NodeSays, AllSay, core_says, all_say, in_order}
 use Rattle.ring_order_proof.specs.RunFacts.{HasFacts}
-use Rattle.ring_order_proof.specs.Between.{MayCome, stepped_node, between}
+use Rattle.ring_order_proof.specs.MidStep.{MayCome, stepped_node, world_after_core_step}
 use Rattle.ring_order_proof.proofs.RingsOfRuns.{IsWhole, all_whole}
 use Rattle.ring_order_proof.proofs.EpochsOfCores.{rings_told}
 use Rattle.ring_order_proof.proofs.RunFacts.{AreNodes, all_nodes, facts_of, all_facts}
@@ -43,7 +43,7 @@ use Rattle.ring_order_proof.proofs.RunFacts.{AreNodes, all_nodes, facts_of, all_
 -- the event of ring cores by which the input arrives
 record ComesBy {A : Type 0} (r : RingWorld A) (i : ℕ) (input : Input A) : Type 0 where
   pub event : RingEvent A
-  pub is : happens r event ≡ after_step r i (ring_step (r.cores i) input)
+  pub is : world_after_event r event ≡ after_step r i (ring_step (r.cores i) input)
 
 comes_by : {A : Type 0} → (w : World A) (outs : List (ℕ × Out A)) (i : ℕ) (input : Input A) → is_node w i ≡ true → MayCome w i input →
     ComesBy (ring_part w outs) i input
@@ -65,7 +65,7 @@ no_payload : {A : Type 0} → (w : World A) (i : ℕ) (input : Input A) → MayC
 no_payload {A} w i input may p e = let none : MayCome w i (SendInput p) = subst (MayCome w i) e may in none
 
 -- replacing one node's value
-put_nodes : {A : Type 0} → (P : Node A → Type 0) (nodes : ℕ → Node A) (i : ℕ) (n : Node A) → ((j : ℕ) → P (nodes j)) → P n → (j : ℕ) → P (put nodes i n j)
+put_nodes : {A : Type 0} → (P : Node A → Type 0) (nodes : ℕ → Node A) (i : ℕ) (n : Node A) → ((j : ℕ) → P (nodes j)) → P n → (j : ℕ) → P (with_node nodes i n j)
 put_nodes P nodes i n all new j = cond_both (j == i) n (nodes j) P (λ e. new) (λ e. all j)
 
 module _ {O A : Type 0} (object : Sequential O) (group : Group) (events : List (Event A)) (i : ℕ) (input : Input A) where
@@ -73,7 +73,7 @@ module _ {O A : Type 0} (object : Sequential O) (group : Group) (events : List (
   w = run object (world_opening group) events
 
   abbrev after : World A
-  after = between w i input
+  after = world_after_core_step w i input
 
   steps_ring : is_node w i ≡ true → MayCome w i input → IsRingRun group after
   steps_ring node may =
@@ -89,7 +89,7 @@ module _ {O A : Type 0} (object : Sequential O) (group : Group) (events : List (
         outs = ring.outs ++ by i outs;
         part =
             cores-append (unformed group.count) ring.events (c.event ∷ [])
-            ∙ ap (λ (r : RingWorld A). happens r c.event) ring.part
+            ∙ ap (λ (r : RingWorld A). world_after_event r c.event) ring.part
             ∙ c.is
             ∙ becomes_part w ring.outs i n outs after (refl, refl, refl);
         node_epochs = all.node_epochs;
@@ -160,20 +160,20 @@ module _ {O A : Type 0} (object : Sequential O) (group : Group) (events : List (
       (subst (λ (l : List (Epoch A)). IsEpochsExtended (w.nodes i).epochs l) (sym steps.node_epochs) (events-on group (w.nodes i).epochs steps.events may))
 
   module _ (few : group.count ≤ 16) (node : is_node w i ≡ true) (comes : MayCome w i input) where
-    rises-between : (p : ℕ) → Rises (epochs_in after p)
-    rises-between = (between_facts few node comes).own.rises
+    rises-world_after_core_step : (p : ℕ) → Rises (epochs_in after p)
+    rises-world_after_core_step = (between_facts few node comes).own.rises
 
-    above-between : AreAbove (epochs_in after) (tops after)
-    above-between p = below_above (epochs_in after p) (rises-between p)
+    above-world_after_core_step : AreAbove (epochs_in after) (tops after)
+    above-world_after_core_step p = below_above (epochs_in after p) (rises-world_after_core_step p)
 
     pub between_rules : KeepsRules group (whole_epochs_in after)
     between_rules =
         subst (λ g. KeepsRules group (λ p. whole_epochs g (epochs_in after) (tops after p) p)) (sym (run_group object group events))
-        (rules-whole group (epochs_in after) (tops after) above-between rises-between between_keep between_drop)
+        (rules-whole group (epochs_in after) (tops after) above-world_after_core_step rises-world_after_core_step between_keep between_drop)
 
     pub between_on : (p : ℕ) → IsEpochsExtended (whole_epochs_in w p) (whole_epochs_in after p)
     between_on p =
         let f = all_facts object group events few in
         let on = filled-on group (epochs_in w) (tops w) (λ q. below_above (epochs_in w q) (f.own.rises q)) f.members f.text f.own
-        (own_keep object group events) (own_drop object group events) (epochs_in after) own_between rises-between (tops after) above-between p in
+        (own_keep object group events) (own_drop object group events) (epochs_in after) own_between rises-world_after_core_step (tops after) above-world_after_core_step p in
         subst (λ g. IsEpochsExtended (whole_epochs g (epochs_in w) (tops w p) p) (whole_epochs g (epochs_in after) (tops after p) p)) (sym (run_group object group events)) on

@@ -20,7 +20,7 @@ use Rattle.ring_log.specs.Epochs.{Epoch, epochs_with_sends, epochs_with_trim}
 use Rattle.ring_log.proofs.CommittedOf.{epochs_with_sends-kept}
 use Rattle.ring_session.specs.Table.{table_after}
 use Rattle.ring_session.specs.Tickets.{answers_after}
-use Rattle.ring_node_spec.specs.DueSends.{due_by}
+use Rattle.ring_node_spec.specs.DueSends.{due_of_outputs}
 use Rattle.ring_node_spec.specs.EpochHistories.{epochs_after}
 use Rattle.ring_node_spec.specs.Nodes.{Node, node_known_log, is_closed, is_restored}
 use Rattle.ring_node_spec.specs.declared.input.Input.{Input}
@@ -128,7 +128,7 @@ module _ {O A : Type 0} (object : Sequential O) where
       let goes : GoesOn (node_known_log n) (known_log_of n.group epochs) =
       subst (λ (l : List (Epoch A)). GoesOn (known_log_of n.group l) (known_log_of n.group (epochs_after l s.outs))) (sym o.epochs)
       (goes-through n.group o.epoch o.older s.outs (subst (IsFrozen n.group) o.epochs steady.frozen) (core-rises n.core input o.epoch.mark o.stands.marked)) in
-      settled-moves (is_known_log_sound n.group epochs && is_restored object (known_log_of n.group epochs)) n s.core s.outs epochs (due_by object n s.core n.epochs s.outs) goes
+      settled-moves (is_known_log_sound n.group epochs && is_restored object (known_log_of n.group epochs)) n s.core s.outs epochs (due_of_outputs object n s.core n.epochs s.outs) goes
 
   pub step-moves : (n : Node A) (input : Input A) → HasSoundEpochs n → Rests n (node_step object n input) ⊎ Moves n (node_step object n input)
   step-moves n (FrameInput frame) steady = core-moves n (CoreFrame frame) steady

@@ -6,11 +6,11 @@ use Rattle.ring_base.specs.declared.ring_id.RingId.{RingId}
 use Rattle.ring_object.specs.Operations.{Sequential}
 use Rattle.ring_wire.specs.declared.message.Message.{Message}
 use Rattle.ring_node_spec.specs.declared.event.Event.{Event}
-use Rattle.ring_node_spec.specs.Worlds.{World, world_opening, happens, run}
+use Rattle.ring_node_spec.specs.Worlds.{World, world_opening, world_after_event, run}
 use Rattle.ring_log_proof.specs.RingFacts.{RingFacts}
 use Rattle.ring_log_proof.specs.Discipline.{KeepsRules}
 use Rattle.ring_log.specs.EpochHistories.{whole_epochs}
-use Rattle.ring_log_proof.specs.Time.{IsEpochsExtended}
+use Rattle.ring_log_proof.specs.EpochEvents.{IsEpochsExtended}
 use Rattle.ring_log_proof.proofs.FilledEpochs.{filled-on}
 use Rattle.ring_order_proof.specs.RunEpochs.{epochs_in, whole_epochs_in}
 use Rattle.ring_order_proof.proofs.DisciplinedWorlds.{lives_keep, opened_on, run_on, own_keep, own_drop, own_on, kept_rise, below_above, tops}
@@ -26,11 +26,11 @@ pub record IsOrderlyWorld {A : Type 0} (group : Group) (w : World A) : Type 0 wh
 pub run-append : {O A : Type 0} → (object : Sequential O) (w : World A) (xs ys : List (Event A))
     → run object w (xs ++ ys) ≡ run object (run object w xs) ys
 run-append object w [] ys = refl
-run-append object w (x ∷ xs) ys = run-append object (happens object w x) xs ys
+run-append object w (x ∷ xs) ys = run-append object (world_after_event object w x) xs ys
 
 -- one more event
 pub run-more : {O A : Type 0} → (object : Sequential O) (w : World A) (before : List (Event A)) (e : Event A)
-    → run object w (before ++ e ∷ []) ≡ happens object (run object w before) e
+    → run object w (before ++ e ∷ []) ≡ world_after_event object (run object w before) e
 run-more object w before e = run-append object w before (e ∷ [])
 
 module _ {O A : Type 0} (object : Sequential O) (group : Group) (few : group.count ≤ 16) where
@@ -40,7 +40,7 @@ module _ {O A : Type 0} (object : Sequential O) (group : Group) (few : group.cou
       record { members = f.members; text = f.text; facts = f.facts; discipline = lives_keep object group events }
 
   -- the world after one more event
-  pub orderly-after : (events : List (Event A)) (e : Event A) → IsOrderlyWorld group (happens object (run object (world_opening group) events) e)
+  pub orderly-after : (events : List (Event A)) (e : Event A) → IsOrderlyWorld group (world_after_event object (run object (world_opening group) events) e)
   orderly-after events e = subst (λ (w : World A). IsOrderlyWorld group w) (run-more object (world_opening group) events e) (orderly (events ++ e ∷ []))
 
   -- as events happen, filled lives are extended

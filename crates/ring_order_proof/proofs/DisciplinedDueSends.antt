@@ -23,16 +23,16 @@ use Rattle.ring_core_spec.specs.State.{Core}
 use Rattle.ring_log.specs.declared.received_head.ReceivedHead.{ReceivedHead}
 use Rattle.ring_log.specs.declared.wanted.Wanted.{Wanted}
 use Rattle.ring_log.specs.Heads.{chosen_head, least_committed}
-use Rattle.ring_log.specs.Exchanges.{Exchange, exchange_opening, wanted_of, wanted_by, wanted}
-use Rattle.ring_log.specs.KnownLog.{KnownLog, restores, known_log_restored, known_log_joined, adopts, adopts_wanted, kept_by, dropped_by, known_log_of, retained_log}
+use Rattle.ring_log.specs.Exchanges.{Exchange, exchange_opening, wanted_from_owner, wanted_from_heads, wanted}
+use Rattle.ring_log.specs.KnownLog.{KnownLog, restores, known_log_restored, known_log_joined, adopts, adopts_wanted, known_log_after_epoch, dropped_by, known_log_of, retained_log}
 use Rattle.ring_log.specs.Parts.{nth_part, parts_between}
 use Rattle.ring_log.specs.Epochs.{Epoch}
-use Rattle.ring_log.specs.EpochHistories.{CompleteExchange, complete_exchange, upto, after_all}
+use Rattle.ring_log.specs.EpochHistories.{CompleteExchange, complete_exchange, messages_upto, exchange_after_messages}
 use Rattle.ring_log.proofs.WholeExchanges.{received_head, some-whole}
 use Rattle.ring_log_proof.proofs.CompleteExchanges.{complete_exchange-from}
 use Rattle.ring_session.specs.Tickets.{TicketCall}
-use Rattle.ring_node_spec.specs.Nodes.{Node, node_known_log, node_pending, snapshot_kept, runs}
-use Rattle.ring_node_spec.specs.DueSends.{has_all_heads, parts_due, snaps_due, is_snapshot_kept, places_due, owner_due, calls_due, places_past}
+use Rattle.ring_node_spec.specs.Nodes.{Node, node_known_log, node_pending, snapshot_kept, is_core_running_in}
+use Rattle.ring_node_spec.specs.DueSends.{has_all_heads, parts_due, snaps_due, is_snapshot_kept, places_due, owner_due, calls_due, uncommitted_places}
 use Rattle.ring_node_spec.specs.DueSends.{due_when_complete, owner_due_on_heads, due_between, due_in_epoch, due_at_agreed}
 use Rattle.ring_log_proof.specs.Discipline.{FollowsHead}
 
@@ -49,31 +49,31 @@ adopts_low {A} k ring w low = by (wanted w.exchange)
         (λ (x : KnownLog A). x.from ≤ x.trimmed) (λ t. omega arith) (λ f. low)
 
 by_low : {A : Type 0} (places : ℕ) (k : KnownLog A) (ring : RingId) (o p : Option (CompleteExchange A)) → k.from ≤ k.trimmed
-    → (dropped_by places (kept_by ring k o p)).from ≤ (dropped_by places (kept_by ring k o p)).trimmed
+    → (dropped_by places (known_log_after_epoch ring k o p)).from ≤ (dropped_by places (known_log_after_epoch ring k o p)).trimmed
 by_low places k ring None p low = omega (arith, low)
 by_low places k ring (Some w) p low = let l = adopts_low k ring w low in omega (arith, l)
 
 pub kept_low : {A : Type 0} (group : Group) (epochs : List (Epoch A)) → (known_log_of group epochs).from ≤ (known_log_of group epochs).trimmed
 kept_low group [] = omega arith
 kept_low group (s ∷ older) =
-    by_low s.trimmed (known_log_of group older) s.ring (complete_exchange group s.members s.heard) (complete_exchange group s.members (upto s.mark s.heard)) (kept_low group older)
+    by_low s.trimmed (known_log_of group older) s.ring (complete_exchange group s.members s.heard) (complete_exchange group s.members (messages_upto s.mark s.heard)) (kept_low group older)
 
 -- before every member's Head was received no exchange is complete, and the known log is the one from before the ring
 
-pub unstated_none : {A : Type 0} (group : Group) (members : ℕ) (heard : List (Message A)) → has_all_heads (after_all (exchange_opening members) heard) ≡ false
+pub unstated_none : {A : Type 0} (group : Group) (members : ℕ) (heard : List (Message A)) → has_all_heads (exchange_after_messages (exchange_opening members) heard) ≡ false
     → complete_exchange group members heard ≡ None
 unstated_none {A} group members heard f = by (complete_exchange group members heard) refl
   where
     by : (o : Option (CompleteExchange A)) → complete_exchange group members heard ≡ o → complete_exchange group members heard ≡ None
     by None e = e
     by (Some w) e =
-        let all = received_head (after_all (exchange_opening members) heard) (some-whole (exchange_opening members) heard w (complete_exchange-from group members heard w e)) in
-        absurd (let x : true ≡ false = sym (eq-eqb (after_all (exchange_opening members) heard).missing_heads nobody all) ∙ f in cc x)
+        let all = received_head (exchange_after_messages (exchange_opening members) heard) (some-whole (exchange_opening members) heard w (complete_exchange-from group members heard w e)) in
+        absurd (let x : true ≡ false = sym (eq-eqb (exchange_after_messages (exchange_opening members) heard).missing_heads nobody all) ∙ f in cc x)
 
-pub still_known : {A : Type 0} (group : Group) (s : Epoch A) (older : List (Epoch A)) → has_all_heads (after_all (exchange_opening s.members) s.heard) ≡ false
+pub still_known : {A : Type 0} (group : Group) (s : Epoch A) (older : List (Epoch A)) → has_all_heads (exchange_after_messages (exchange_opening s.members) s.heard) ≡ false
     → known_log_of group (s ∷ older) ≡ dropped_by s.trimmed (known_log_of group older)
 still_known group s older f =
-    ap (λ o. dropped_by s.trimmed (kept_by s.ring (known_log_of group older) o (complete_exchange group s.members (upto s.mark s.heard))))
+    ap (λ o. dropped_by s.trimmed (known_log_after_epoch s.ring (known_log_of group older) o (complete_exchange group s.members (messages_upto s.mark s.heard))))
     (unstated_none group s.members s.heard f)
 
 follows_undropped : {A : Type 0} (places : ℕ) (k : KnownLog A) (p : Payload A) → FollowsHead (dropped_by places k) p → FollowsHead k p
@@ -87,23 +87,23 @@ follows_undropped places k End h = h
 
 -- A wanted snapshot stands for the places below the wanted ones
 
-of_head : (owner least : ℕ) (head : OneHead) (at : ℕ) → (wanted_of owner head least).snapshot ≡ Some at → at ≡ (wanted_of owner head least).from
+of_head : (owner least : ℕ) (head : OneHead) (at : ℕ) → (wanted_from_owner owner head least).snapshot ≡ Some at → at ≡ (wanted_from_owner owner head least).from
 of_head owner least head at =
     cond_both (nat_lt least head.trimmed) (record { owner = owner; snapshot = Some head.trimmed; from = head.trimmed; to = head.length })
     (record { owner = owner; snapshot = None; from = least; to = head.length }) (λ (w : Wanted). w.snapshot ≡ Some at → at ≡ w.from)
     (λ t e. let same : head.trimmed ≡ at = cc e in sym same) (λ f e. absurd (cc e))
 
-of_heads : (heads : List ReceivedHead) (w : Wanted) (at : ℕ) → wanted_by heads ≡ Some w → w.snapshot ≡ Some at → at ≡ w.from
+of_heads : (heads : List ReceivedHead) (w : Wanted) (at : ℕ) → wanted_from_heads heads ≡ Some w → w.snapshot ≡ Some at → at ≡ w.from
 of_heads [] w at e snap = absurd (cc e)
 of_heads (s ∷ rest) w at e snap =
     let chosen = chosen_head s rest in
     let least = least_committed s.head.committed rest in
-    let same : wanted_of chosen.sender chosen.head least ≡ w = cc e in
+    let same : wanted_from_owner chosen.sender chosen.head least ≡ w = cc e in
     subst (λ (v : Wanted). v.snapshot ≡ Some at → at ≡ v.from) same (of_head chosen.sender least chosen.head at) snap
 
 pub snapshot_from : {A : Type 0} (e : Exchange A) (w : Wanted) (at : ℕ) → wanted e ≡ Some w → w.snapshot ≡ Some at → at ≡ w.from
 snapshot_from e w at =
-    cond_both (e.missing_heads == nobody) (wanted_by e.heads) None (λ o. o ≡ Some w → w.snapshot ≡ Some at → at ≡ w.from)
+    cond_both (e.missing_heads == nobody) (wanted_from_heads e.heads) None (λ o. o ≡ Some w → w.snapshot ≡ Some at → at ≡ w.from)
     (λ t wants. of_heads e.heads w at wants) (λ f wants. absurd (cc wants))
 
 -- Parts
@@ -192,19 +192,19 @@ calls_follow own calls pending = any_each (FollowsHead own) _ _ (λ t. tt)
 whole_follows : {A : Type 0} → (own : KnownLog A) (n : Node A) (epochs : List (Epoch A)) (old new : Exchange A)
     → Each (FollowsHead own) (due_when_complete n epochs old new)
 whole_follows own n epochs old new =
-    let places = places_past (node_known_log n).committed (retained_log (known_log_of n.group epochs)) in
+    let places = uncommitted_places (node_known_log n).committed (retained_log (known_log_of n.group epochs)) in
     cond_both _ (calls_due (node_pending n) places) [] (Each (FollowsHead own)) (λ e. calls_follow own places (node_pending n)) (λ e. tt)
 
 -- the ring runs and is primary
 pub record RunsPrimary {A : Type 0} (group : Group) (core : Core A) (ring : RingId) (members : ℕ) : Type 0 where
-  pub runs_here : runs core ring ≡ true
+  pub runs_here : is_core_running_in core ring ≡ true
   pub primary : is_primary group members ≡ true
 
 module _ {O A : Type 0} (object : Sequential O) where
   stated_follows : (n : Node A) (s : Epoch A) (older : List (Epoch A)) (new : Exchange A)
-      → Each (FollowsHead (known_log_of n.group older)) (owner_due_on_heads object n (known_log_of n.group (s ∷ older)) (after_all (exchange_opening s.members) s.heard) new)
+      → Each (FollowsHead (known_log_of n.group older)) (owner_due_on_heads object n (known_log_of n.group (s ∷ older)) (exchange_after_messages (exchange_opening s.members) s.heard) new)
   stated_follows n s older new =
-      let old = after_all (exchange_opening s.members) s.heard in
+      let old = exchange_after_messages (exchange_opening s.members) s.heard in
       let k = known_log_of n.group (s ∷ older) in
       let before = known_log_of n.group older in
       let due = owner_due n.core.me (snapshot_kept object k) (retained_log k) (wanted new) in
@@ -221,10 +221,10 @@ module _ {O A : Type 0} (object : Sequential O) where
   agreed_due n core ring s older x epochs =
       let P = RunsPrimary n.group core ring s.members in
       let own = known_log_of n.group older in
-      let old = after_all (exchange_opening s.members) s.heard in
-      let new = after_all (exchange_opening s.members) (s.heard ++ x ∷ []) in
+      let old = exchange_after_messages (exchange_opening s.members) s.heard in
+      let new = exchange_after_messages (exchange_opening s.members) (s.heard ++ x ∷ []) in
       let told = owner_due_on_heads object n (known_log_of n.group (s ∷ older)) old new in
-      cond_both (runs core ring) (due_in_epoch object n s (s ∷ older) x epochs) [] (IsDue P own)
+      cond_both (is_core_running_in core ring) (due_in_epoch object n s (s ∷ older) x epochs) [] (IsDue P own)
       (λ r. cond_both (is_primary n.group s.members) (due_between object n (s ∷ older) epochs old new) [] (IsDue P own)
       (λ p. record {
         follows = each-append (FollowsHead own) told (due_when_complete n epochs old new) (stated_follows n s older new) (whole_follows own n epochs old new);

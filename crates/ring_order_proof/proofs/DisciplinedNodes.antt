@@ -6,7 +6,7 @@ use Rattle.ring_base.specs.Group.{Group, is_primary}
 use Rattle.ring_base.specs.Rings.{same_ring}
 use Rattle.ring_base.proofs.Each.{each-weaker}
 use Rattle.ring_base.proofs.SameRing.{ring_same}
-use Rattle.ring_core_proof.specs.LawWords.{IsFalling}
+use Rattle.ring_core_proof.specs.LawConditions.{IsFalling}
 use Rattle.std.specs.List.{AllByRecursion as Each}
 use Rattle.ring_base.specs.declared.ring_id.RingId.{RingId}
 use Rattle.ring_base.specs.declared.state.State.TheVariants.{Operational}
@@ -22,25 +22,25 @@ use Rattle.ring_core_spec.specs.State.{Core, TransitionResult}
 use Rattle.ring_core_spec.specs.Joining.{is_operational}
 use Rattle.ring_core_spec.specs.Views.{mark}
 use Rattle.ring_core_spec.specs.Deciding.{decide}
-use Rattle.ring_core_spec.specs.Transitions.{done}
-use Rattle.ring_core_spec.specs.Giving.{may_install, sent, given, settle}
+use Rattle.ring_core_spec.specs.Transitions.{transition_and_proposal}
+use Rattle.ring_core_spec.specs.Giving.{may_install, sent, agreed_and_safe_of_step, with_installation_if}
 use Rattle.ring_core_spec.specs.Stepping.{ring_step}
 use Rattle.ring_log.specs.declared.wanted.Wanted.{Wanted}
 use Rattle.ring_log.specs.Epochs.{Epoch, epochs_with_sends, epochs_with_trim}
 use Rattle.ring_log.specs.Exchanges.{exchange_opening, wanted}
-use Rattle.ring_log.specs.EpochHistories.{CompleteExchange, complete_exchange_from, complete_exchange, upto}
-use Rattle.ring_log.specs.KnownLog.{KnownLog, restores, known_log_restored, known_log_joined, adopts, adopts_wanted, kept_by, dropped_by, known_log_of, retained_log, is_known_log_sound}
+use Rattle.ring_log.specs.EpochHistories.{CompleteExchange, complete_exchange_from, complete_exchange, messages_upto}
+use Rattle.ring_log.specs.KnownLog.{KnownLog, restores, known_log_restored, known_log_joined, adopts, adopts_wanted, known_log_after_epoch, dropped_by, known_log_of, retained_log, is_known_log_sound}
 use Rattle.ring_log.specs.Logs.{committed_calls}
 use Rattle.ring_log.proofs.CommittedOf.{epochs_with_sends-kept}
 use Rattle.ring_node_spec.specs.declared.input.Input.{Input as NodeInput}
 use Rattle.ring_node_spec.specs.declared.input.Input.TheVariants.{Frame as NodeFrame, Noise as NodeNoise, Timeout as NodeTime, Stop as NodeStop}
 use Rattle.ring_node_spec.specs.EpochHistories.{epochs_after}
-use Rattle.ring_node_spec.specs.Nodes.{Node, node_known_log, node_stopped, runs_some, runs_adopted, is_closed, is_restored}
+use Rattle.ring_node_spec.specs.Nodes.{Node, node_known_log, node_stopped, is_running_ring, runs_adopted, is_closed, is_restored}
 use Rattle.ring_node_spec.specs.Stepping.{NodeStepResult, handed_over, node_after_outputs, with_dropped, newly_committed, drops, did, settled, after_core, node_step}
-use Rattle.ring_node_spec.specs.Stepping.{due_by_submit, submitted}
-use Rattle.ring_node_spec.specs.DueSends.{due_by}
+use Rattle.ring_node_spec.specs.Stepping.{due_by_submit, node_after_submit}
+use Rattle.ring_node_spec.specs.DueSends.{due_of_outputs}
 use Rattle.ring_node_spec.proofs.QueuedSends.{queued_all}
-use Rattle.ring_log_proof.specs.Time.{EpochEvent, Handed, Dropped, MayDrop, MaySendAfter, MaySend, AllMayHappen, epochs_after_events}
+use Rattle.ring_log_proof.specs.EpochEvents.{EpochEvent, Handed, Dropped, MayDrop, MaySendAfter, MaySend, AllMayHappen, epochs_after_events}
 use Rattle.ring_log_proof.specs.RingFacts.{Rises}
 use Rattle.ring_log_proof.specs.Discipline.{DropsOnlyCommitted}
 use Rattle.ring_log_proof.proofs.RunEpochs.{event-dropping, events-dropping}
@@ -83,7 +83,7 @@ core_step : {O A : Type 0} → (object : Sequential O) (n : Node A) (s : Epoch A
 unfolding ring_step
 core_step {O} {A} object n s older input h rings o =
     let c = n.core in
-    let d = done c (decide c input) in
+    let d = transition_and_proposal c (decide c input) in
     let k = keeps_done c input o in
     by_install n s older d h k.keeps.installed k.keeps.installs rings (k.keeps.marks c.installed.ring)
     (λ e. done_operates c (decide c input) e) k.ordered (may_install d.core) refl
@@ -93,16 +93,16 @@ core_step {O} {A} object n s older input h rings o =
         → mark n.core n.core.installed.ring ≤ mark d.core n.core.installed.ring
         → (d.core.state ≡ Operational → n.core.state ≡ Operational) → Ordered d.core →
         (b : Bool) → may_install d.core ≡ b →
-        IsStep object n (settle b d.core (sent d.sends ++ given n.core d.core)).core (s ∷ older) (settle b d.core (sent d.sends ++ given n.core d.core)).outs
+        IsStep object n (with_installation_if b d.core (sent d.sends ++ agreed_and_safe_of_step n.core d.core)).core (s ∷ older) (with_installation_if b d.core (sent d.sends ++ agreed_and_safe_of_step n.core d.core)).outs
     by_install n s older d h same kept rings rises operated o false e = stays_step object n s older d.core d.sends h rises same kept rings operated
     by_install n s older d h same kept rings rises operated o true e =
         installs_step object n s older d.core d.sends h rises same kept rings (o.apart (inr (installs_recovering d.core.state d.core e)))
 
 -- with the due payloads handed over
 walked_on : {O A : Type 0} → (object : Sequential O) (n : Node A) (core : Core A) (outs : List (Out A)) → IsStep object n core n.epochs outs → Ordered core
-    → may_install core ≡ false → DropsOnlyCommitted n.group n.epochs → Becomes n (node_after_outputs n core (epochs_after n.epochs outs) (due_by object n core n.epochs outs))
+    → may_install core ≡ false → DropsOnlyCommitted n.group n.epochs → Becomes n (node_after_outputs n core (epochs_after n.epochs outs) (due_of_outputs object n core n.epochs outs))
 walked_on {O} {A} object n core outs t o r drops =
-    let due = due_by object n core n.epochs outs in
+    let due = due_of_outputs object n core n.epochs outs in
     let q = queued_all core due r in
     let new : Epoch A = record t.epoch { sent = t.epoch.sent ++ due } in
     let core_is = sym q.is in
@@ -196,13 +196,13 @@ dropped_on {A} n new places is b =
     }
 
 settles : {O A : Type 0} → (object : Sequential O) (n : Node A) (t : Bool) (core : Core A) (outs : List (Out A)) → IsOrderlyNode n →
-    Becomes n (node_after_outputs n core (epochs_after n.epochs outs) (due_by object n core n.epochs outs)) →
-    Becomes n (settled object t n (node_after_outputs n core (epochs_after n.epochs outs) (due_by object n core n.epochs outs)) outs
+    Becomes n (node_after_outputs n core (epochs_after n.epochs outs) (due_of_outputs object n core n.epochs outs)) →
+    Becomes n (settled object t n (node_after_outputs n core (epochs_after n.epochs outs) (due_of_outputs object n core n.epochs outs)) outs
     (known_log_of n.group (epochs_after n.epochs outs))).node
 settles object n false core outs o b = node_stops n o
 settles {O} {A} object n true core outs o b =
     let epochs = epochs_after n.epochs outs in
-    let due = due_by object n core n.epochs outs in
+    let due = due_of_outputs object n core n.epochs outs in
     let k = known_log_of n.group epochs in
     let new = node_after_outputs n core epochs due in
     let d = did object n new outs k (newly_committed (node_known_log n) k) in
@@ -311,7 +311,7 @@ last_adopted {A} k ring last w = by (wanted w.exchange)
         cond_both (restores k v) (known_log_restored ring v w.exchange.bytes w.exchange.received_calls) (known_log_joined k ring v w.exchange.received_calls)
         (λ (x : KnownLog A). x.last ≡ Some last → (k.last ≡ Some last) ⊎ (ring ≡ last)) (λ t h. inr (cc h)) (λ f h. inr (cc h)) e
 
-last_by : {A : Type 0} → (places : ℕ) (k : KnownLog A) (ring last : RingId) (o p : Option (CompleteExchange A)) → (dropped_by places (kept_by ring k o p)).last ≡ Some last
+last_by : {A : Type 0} → (places : ℕ) (k : KnownLog A) (ring last : RingId) (o p : Option (CompleteExchange A)) → (dropped_by places (known_log_after_epoch ring k o p)).last ≡ Some last
     → (k.last ≡ Some last) ⊎ ((ring ≡ last) × (o ≡ None → ⊥))
 last_by places k ring last None p e = inl e
 last_by places k ring last (Some w) p e = elim (last_adopted k ring last w e) as (λ _. (k.last ≡ Some last) ⊎ ((ring ≡ last) × (Some w ≡ None → ⊥))) [
@@ -323,7 +323,7 @@ last_by places k ring last (Some w) p e = elim (last_adopted k ring last w e) as
 last_of : {A : Type 0} → (group : Group) (s : Epoch A) (older : List (Epoch A)) (last : RingId) → (known_log_of group (s ∷ older)).last ≡ Some last
     → ((known_log_of group older).last ≡ Some last) ⊎ ((s.ring ≡ last) × (complete_exchange group s.members s.heard ≡ None → ⊥))
 last_of group s older last =
-    last_by s.trimmed (known_log_of group older) s.ring last (complete_exchange group s.members s.heard) (complete_exchange group s.members (upto s.mark s.heard))
+    last_by s.trimmed (known_log_of group older) s.ring last (complete_exchange group s.members s.heard) (complete_exchange group s.members (messages_upto s.mark s.heard))
 
 last_below : {A : Type 0} → (group : Group) (n : ℕ) (epochs : List (Epoch A)) → Each (λ (s : Epoch A). s.ring.seq < n) epochs → (ring : RingId) →
     (known_log_of group epochs).last ≡ Some ring → ring.seq < n
@@ -345,7 +345,7 @@ last_primary {A} group s older h ring e r = elim (last_of group s older ring e) 
 -- if an adopted ring runs, something was handed over there
 adopted_opened : {A : Type 0} → (n : Node A) (o : IsOrderlyNode n) → runs_adopted n ≡ true → o.epoch.sent ≡ [] → ⊥
 adopted_opened {A} n o e none = by_last (known_log_of n.group (o.epoch ∷ o.older)).last refl
-    (subst (λ (l : List (Epoch A)). runs_some n.core (known_log_of n.group l).last ≡ true) o.epochs e)
+    (subst (λ (l : List (Epoch A)). is_running_ring n.core (known_log_of n.group l).last ≡ true) o.epochs e)
   where
     apart : Each (λ (t : Epoch A). t.ring.seq < o.epoch.ring.seq) o.older
     apart =
@@ -355,7 +355,7 @@ adopted_opened {A} n o e none = by_last (known_log_of n.group (o.epoch ∷ o.old
         subst (λ (q : RingId). Each (λ (t : Epoch A). t.ring.seq < q.seq) o.older) (sym first)
         (stays_below n.core.installed.ring.seq o.older o.ordered.older rest (falls_from n.core.installed o.ordered.older o.ordered.falls))
 
-    by_last : (last : Option RingId) → (known_log_of n.group (o.epoch ∷ o.older)).last ≡ last → runs_some n.core last ≡ true → ⊥
+    by_last : (last : Option RingId) → (known_log_of n.group (o.epoch ∷ o.older)).last ≡ last → is_running_ring n.core last ≡ true → ⊥
     by_last None l r = absurd (cc r)
     by_last (Some ring) l r =
         let both = and_parts (is_operational n.core.state) (same_ring n.core.installed.ring ring) r in
@@ -366,7 +366,7 @@ adopted_opened {A} n o e none = by_last (known_log_of n.group (o.epoch ∷ o.old
 queued_ready : {A : Type 0} → (c : Core A) (q : List (Payload A)) → may_install c ≡ false → may_install (with_queue c q) ≡ false
 queued_ready c q h = installs_same c.state c q ∙ h
 
-pub node_submits : {A : Type 0} → (n : Node A) (c : OneCall A) → IsOrderlyNode n → Becomes n (submitted n c)
+pub node_submits : {A : Type 0} → (n : Node A) (c : OneCall A) → IsOrderlyNode n → Becomes n (node_after_submit n c)
 node_submits {A} n c o =
     let due = due_by_submit n c in
     let q = queued_all n.core due o.ready in

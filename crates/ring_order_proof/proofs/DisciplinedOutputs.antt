@@ -12,25 +12,25 @@ use Rattle.ring_core_spec.specs.declared.out.Out.{Out}
 use Rattle.ring_core_spec.specs.declared.out.Out.TheVariants.{Safe as SafeOut}
 use Rattle.ring_core_spec.specs.State.{Core}
 use Rattle.ring_core_spec.specs.Views.{front, mark}
-use Rattle.ring_core_spec.specs.Giving.{users, all_agreed, agreed_from, safe_from, delivered_from}
+use Rattle.ring_core_spec.specs.Giving.{user_messages_between, all_agreed, agreed_from, safe_from, delivered_from}
 use Rattle.ring_log.specs.Epochs.{Epoch}
 use Rattle.ring_log.specs.KnownLog.{known_log_of}
 use Rattle.ring_node_spec.specs.EpochHistories.{epochs_after_event, epochs_after}
 use Rattle.ring_node_spec.proofs.EpochsAfterOutputs.{through-append}
 use Rattle.ring_node_spec.specs.Nodes.{Node}
-use Rattle.ring_log_proof.specs.Time.{EpochEvent, Agreed, Safe, AllMayHappen, epochs_after_events}
-use Rattle.ring_log_proof.specs.Time.{epochs_after_event as life_lived}
+use Rattle.ring_log_proof.specs.EpochEvents.{EpochEvent, Agreed, Safe, AllMayHappen, epochs_after_events}
+use Rattle.ring_log_proof.specs.EpochEvents.{epochs_after_event as life_lived}
 use Rattle.ring_order_proof.proofs.DisciplinedDueSends.{IsDue, RunsPrimary, none_due, both_due, agreed_due}
-use Rattle.ring_node_spec.specs.DueSends.{due_at, due_by}
+use Rattle.ring_node_spec.specs.DueSends.{due_at_output, due_of_outputs}
 
 -- One list after another
 
 pub due-append : {O A : Type 0} → (object : Sequential O) (n : Node A) (core : Core A) (epochs : List (Epoch A)) (xs ys : List (Out A)) →
-    due_by object n core epochs (xs ++ ys) ≡ due_by object n core epochs xs ++ due_by object n core (epochs_after epochs xs) ys
+    due_of_outputs object n core epochs (xs ++ ys) ≡ due_of_outputs object n core epochs xs ++ due_of_outputs object n core (epochs_after epochs xs) ys
 due-append object n core epochs [] ys = refl
 due-append object n core epochs (x ∷ xs) ys =
-    ap (λ zs. due_at object n core epochs x ++ zs) (due-append object n core (epochs_after_event epochs x) xs ys)
-    ∙ sym (append_assoc (due_at object n core epochs x) (due_by object n core (epochs_after_event epochs x) xs) (due_by object n core (epochs_after (epochs_after_event epochs x) xs) ys))
+    ap (λ zs. due_at_output object n core epochs x ++ zs) (due-append object n core (epochs_after_event epochs x) xs ys)
+    ∙ sym (append_assoc (due_at_output object n core epochs x) (due_of_outputs object n core (epochs_after_event epochs x) xs) (due_of_outputs object n core (epochs_after (epochs_after_event epochs x) xs) ys))
 
 pub events-append : {A : Type 0} → (epochs : List (Epoch A)) (xs ys : List (EpochEvent A)) → epochs_after_events epochs (xs ++ ys) ≡ epochs_after_events (epochs_after_events epochs xs) ys
 events-append epochs [] ys = refl
@@ -50,10 +50,10 @@ silent_through f h (x ∷ xs) epochs = ap (λ l. epochs_after l (map f xs)) (h x
 
 pub silent_due : {O X A : Type 0} → (object : Sequential O) (n : Node A) (core : Core A) (f : X → Out A) →
     ((x : X) (epochs : List (Epoch A)) → epochs_after_event epochs (f x) ≡ epochs) →
-    ((x : X) (epochs : List (Epoch A)) → due_at object n core epochs (f x) ≡ []) → (xs : List X) (epochs : List (Epoch A)) → due_by object n core epochs (map f xs) ≡ []
+    ((x : X) (epochs : List (Epoch A)) → due_at_output object n core epochs (f x) ≡ []) → (xs : List X) (epochs : List (Epoch A)) → due_of_outputs object n core epochs (map f xs) ≡ []
 silent_due object n core f h k [] epochs = refl
 silent_due object n core f h k (x ∷ xs) epochs =
-    ap (λ zs. zs ++ due_by object n core (epochs_after_event epochs (f x)) (map f xs)) (k x epochs)
+    ap (λ zs. zs ++ due_of_outputs object n core (epochs_after_event epochs (f x)) (map f xs)) (k x epochs)
     ∙ silent_due object n core f h k xs (epochs_after_event epochs (f x))
 
 -- The newest epoch after outputs of its ring
@@ -68,7 +68,7 @@ pub record IsTold {O A : Type 0} (object : Sequential O) (n : Node A) (core : Co
   pub ring_is : epoch.ring ≡ s.ring
   pub members_is : epoch.members ≡ s.members
   pub sent_is : epoch.sent ≡ s.sent
-  pub due : IsDue (RunsPrimary n.group core ring s.members) (known_log_of n.group older) (due_by object n core (s ∷ older) outs)
+  pub due : IsDue (RunsPrimary n.group core ring s.members) (known_log_of n.group older) (due_of_outputs object n core (s ∷ older) outs)
 
 -- agreed messages
 
@@ -140,10 +140,10 @@ pub told_then : {O A : Type 0} → (object : Sequential O) (n : Node A) (core : 
     (xs ys : List (Out A)) (t : IsTold object n core ring s older xs) (u : IsTold object n core ring t.epoch older ys)
     → (v : IsTold object n core ring s older (xs ++ ys)) × (v.epoch ≡ u.epoch)
 told_then {O} {A} object n core ring s older xs ys t u =
-    let rest : IsDue (RunsPrimary n.group core ring s.members) (known_log_of n.group older) (due_by object n core (t.epoch ∷ older) ys) =
-    subst (λ members. IsDue (RunsPrimary n.group core ring members) (known_log_of n.group older) (due_by object n core (t.epoch ∷ older) ys)) t.members_is u.due in
-    let next : IsDue (RunsPrimary n.group core ring s.members) (known_log_of n.group older) (due_by object n core (epochs_after (s ∷ older) xs) ys) =
-    subst (λ (l : List (Epoch A)). IsDue (RunsPrimary n.group core ring s.members) (known_log_of n.group older) (due_by object n core l ys)) (sym t.epochs) rest in (
+    let rest : IsDue (RunsPrimary n.group core ring s.members) (known_log_of n.group older) (due_of_outputs object n core (t.epoch ∷ older) ys) =
+    subst (λ members. IsDue (RunsPrimary n.group core ring members) (known_log_of n.group older) (due_of_outputs object n core (t.epoch ∷ older) ys)) t.members_is u.due in
+    let next : IsDue (RunsPrimary n.group core ring s.members) (known_log_of n.group older) (due_of_outputs object n core (epochs_after (s ∷ older) xs) ys) =
+    subst (λ (l : List (Epoch A)). IsDue (RunsPrimary n.group core ring s.members) (known_log_of n.group older) (due_of_outputs object n core l ys)) (sym t.epochs) rest in (
       record {
         epoch = u.epoch;
         epochs = through-append (s ∷ older) xs ys ∙ ap (λ l. epochs_after l ys) t.epochs ∙ u.epochs;
@@ -163,7 +163,7 @@ pub delivered_told : {O A : Type 0} → (object : Sequential O) (n : Node A) (co
     (f m : ℕ) →
     s.mark ≤ m → m ≤ mark c ring → (t : IsTold object n core ring s older (delivered_from c ring f m)) × (t.epoch.mark ≤ mark c ring)
 delivered_told object n core c ring s older f m below rises =
-    let a = agreed_told object n core ring s older (users c ring f (front c ring)) in
+    let a = agreed_told object n core ring s older (user_messages_between c ring f (front c ring)) in
     let b = safe_told object n core c ring a.0.epoch older m (subst (λ k. k ≤ m) (sym a.1) below) rises in
     let v = told_then object n core ring s older (agreed_from c ring f) (safe_from c ring m) a.0 b.0 in
     (v.0, subst (λ (t : Epoch _). t.mark ≤ mark c ring) (sym v.1) b.1)

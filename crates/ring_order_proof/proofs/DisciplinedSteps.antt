@@ -14,7 +14,7 @@ use Rattle.ring_payload.specs.declared.content.Payload.{Payload}
 use Rattle.ring_payload.specs.declared.content.Payload.TheVariants.{Head}
 use Rattle.ring_wire.specs.declared.message.Message.{Message}
 use Rattle.ring_core_spec.specs.Commits.{Configuration}
-use Rattle.ring_core_spec.specs.Recoveries.{rests}
+use Rattle.ring_core_spec.specs.Recoveries.{rest_messages}
 use Rattle.ring_core_spec.specs.declared.out.Out.{Out}
 use Rattle.ring_core_spec.specs.declared.out.Out.TheVariants.{Send as SendOut, Rest, Regular as RegularOut}
 use Rattle.ring_core_spec.specs.State.{Core, OutgoingFrame, TransitionResult}
@@ -22,18 +22,18 @@ use Rattle.ring_core_spec.specs.Joining.{is_operational, proposes}
 use Rattle.ring_core_spec.specs.Views.{front, mark, plan}
 use Rattle.ring_core_spec.specs.Deciding.{Transition, Ignore, Enqueue, Repeat, Announce, Invite, GiveUp, EnterGather, Agree, MergeJoin}
 use Rattle.ring_core_spec.specs.Deciding.{EnterGatherAndAgree, EnterGatherAndMergeJoin, Take, Visit, Fill, Learn}
-use Rattle.ring_core_spec.specs.Transitions.{apply_transition, may_propose_after, with_proposal_if, done}
-use Rattle.ring_core_spec.specs.Giving.{install, addressed, sent, given, delivered_from, installation_outputs}
+use Rattle.ring_core_spec.specs.Transitions.{apply_transition, may_propose_after, with_proposal_if, transition_and_proposal}
+use Rattle.ring_core_spec.specs.Giving.{install, sends_with_receivers, sent, agreed_and_safe_of_step, delivered_from, installation_outputs}
 use Rattle.ring_log.specs.Epochs.{Epoch, epoch_opening}
 use Rattle.ring_log.specs.KnownLog.{known_log_of, known_log_head}
 use Rattle.ring_node_spec.specs.EpochHistories.{epochs_after_event, epochs_after}
 use Rattle.ring_node_spec.proofs.EpochsAfterOutputs.{through-append}
-use Rattle.ring_node_spec.specs.Nodes.{Node, runs}
-use Rattle.ring_log_proof.specs.Time.{EpochEvent, Regular, MaySendFirst, MaySendAfter, AllMayHappen, epochs_after_events}
+use Rattle.ring_node_spec.specs.Nodes.{Node, is_core_running_in}
+use Rattle.ring_log_proof.specs.EpochEvents.{EpochEvent, Regular, MaySendFirst, MaySendAfter, AllMayHappen, epochs_after_events}
 use Rattle.ring_order_proof.proofs.DisciplinedDueSends.{IsDue, RunsPrimary, none_due}
 use Rattle.ring_order_proof.proofs.DisciplinedOutputs.{IsTold, due-append, events-append, may-append, silent_through, silent_due}
 use Rattle.ring_order_proof.proofs.DisciplinedOutputs.{delivered_told, told_then}
-use Rattle.ring_node_spec.specs.DueSends.{due_at_regular, due_at, due_by}
+use Rattle.ring_node_spec.specs.DueSends.{due_at_regular, due_at_output, due_of_outputs}
 
 -- Frames sent don't change a life
 
@@ -91,13 +91,13 @@ proposed_operates : {A : Type 0} → (b : Bool) (d : TransitionResult A) → (wi
 proposed_operates false d e = e
 proposed_operates true d e = absurd (cc)
 
-pub done_operates : {A : Type 0} → (c : Core A) (a : Transition A) → (done c a).core.state ≡ Operational → c.state ≡ Operational
+pub done_operates : {A : Type 0} → (c : Core A) (a : Transition A) → (transition_and_proposal c a).core.state ≡ Operational → c.state ≡ Operational
 done_operates c a e = act_operates c a (proposed_operates (may_propose_after a && proposes (apply_transition c a).core) (apply_transition c a) e)
 
 -- The first sends, and the outputs of the ring before
 
 silent_told : {O X A : Type 0} → (object : Sequential O) (n : Node A) (core : Core A) (ring : RingId) (s : Epoch A) (older : List (Epoch A)) (f : X → Out A) →
-    ((x : X) (epochs : List (Epoch A)) → epochs_after_event epochs (f x) ≡ epochs) → ((x : X) (epochs : List (Epoch A)) → due_at object n core epochs (f x) ≡ []) → (xs : List X) →
+    ((x : X) (epochs : List (Epoch A)) → epochs_after_event epochs (f x) ≡ epochs) → ((x : X) (epochs : List (Epoch A)) → due_at_output object n core epochs (f x) ≡ []) → (xs : List X) →
     (t : IsTold object n core ring s older (map f xs)) × (t.epoch ≡ s)
 silent_told object n core ring s older f h k xs = (
   record {
@@ -118,13 +118,13 @@ silent_told object n core ring s older f h k xs = (
 -- the ring that was installed as the step began
 pub given_told : {O A : Type 0} → (object : Sequential O) (n : Node A) (core c d : Core A) (sends : List (OutgoingFrame A)) (s : Epoch A) (older : List (Epoch A)) →
     s.mark ≤ mark c c.installed.ring → mark c c.installed.ring ≤ mark d c.installed.ring →
-    (t : IsTold object n core c.installed.ring s older (sent sends ++ given c d)) × (t.epoch.mark ≤ mark d c.installed.ring)
+    (t : IsTold object n core c.installed.ring s older (sent sends ++ agreed_and_safe_of_step c d)) × (t.epoch.mark ≤ mark d c.installed.ring)
 given_told {O} {A} object n core c d sends s older below rises =
     let ring = c.installed.ring in
-    let a = silent_told object n core ring s older (λ (x : OutgoingFrame A). send_out x) (λ x epochs. refl) (λ x epochs. refl) (addressed sends) in
+    let a = silent_told object n core ring s older (λ (x : OutgoingFrame A). send_out x) (λ x epochs. refl) (λ x epochs. refl) (sends_with_receivers sends) in
     let low = subst (λ (t : Epoch A). t.mark ≤ mark c ring) (sym a.1) below in
     let g = delivered_told object n core d ring a.0.epoch older (front c ring) (mark c ring) low rises in
-    let v = told_then object n core ring s older (sent sends) (given c d) a.0 g.0 in
+    let v = told_then object n core ring s older (sent sends) (agreed_and_safe_of_step c d) a.0 g.0 in
     (v.0, subst (λ (t : Epoch A). t.mark ≤ mark d ring) (sym v.1) g.1)
 
 -- The relation between a node's life and its core
@@ -151,8 +151,8 @@ pub record IsStep {O A : Type 0} (object : Sequential O) (n : Node A) (core : Co
   pub events : List (EpochEvent A)
   pub may : AllMayHappen n.group epochs events
   pub lived_on : epochs_after_events epochs events ≡ epoch ∷ older
-  pub hand : MaySendAfter n.group epoch older epoch.sent (due_by object n core epochs outs)
-  pub stands : Stands n.group core epoch (epoch.sent ++ due_by object n core epochs outs)
+  pub hand : MaySendAfter n.group epoch older epoch.sent (due_of_outputs object n core epochs outs)
+  pub stands : Stands n.group core epoch (epoch.sent ++ due_of_outputs object n core epochs outs)
   pub rings : rings_of (epoch ∷ older) ≡ installed_rings core.installs
 
 pub left_nil : {X : Type 0} (xs ys : List X) → xs ++ ys ≡ [] → xs ≡ []
@@ -163,7 +163,7 @@ module _ {O A : Type 0} (object : Sequential O) (n : Node A) (s : Epoch A) (olde
     (h : Stands n.group n.core s s.sent) (rises : mark n.core n.core.installed.ring ≤ mark d n.core.installed.ring)
     (same : d.installed ≡ n.core.installed) (kept : d.installs ≡ n.core.installs) (rings : rings_of (s ∷ older) ≡ installed_rings n.core.installs)
     (operated : d.state ≡ Operational → n.core.state ≡ Operational) where
-  pub stays_step : IsStep object n d (s ∷ older) (sent sends ++ given n.core d)
+  pub stays_step : IsStep object n d (s ∷ older) (sent sends ++ agreed_and_safe_of_step n.core d)
   stays_step =
       let c = n.core in
       let v = given_told object n d c d sends s older h.marked rises in
@@ -196,7 +196,7 @@ first_same group s t older (p ∷ ps) e h = (subst (IsPrimary group) e h.0, h.1,
 
 -- an installed ring differs from the one before
 installs_other : {A : Type 0} → (d : Core A) (ring : RingId) → d.installed.ring ≡ ring → d.installed.ring.seq < d.running.ring.seq →
-    runs (install d) ring ≡ true → ⊥
+    is_core_running_in (install d) ring ≡ true → ⊥
 installs_other d ring e below r =
     let same : d.running.ring ≡ ring = ring_same d.running.ring ring r in
     let a : d.installed.ring.seq ≡ ring.seq = ap (λ (r : RingId). r.seq) e in
@@ -212,46 +212,46 @@ configured_told : {O A : Type 0} → (object : Sequential O) (n : Node A) (d : C
     (t : IsTold object n (install d) d.running.ring (epoch_opening d.running.ring d.running.members) (s ∷ older) (delivered_from d d.running.ring 0 0))
     × (t.epoch.mark ≤ mark d d.running.ring)
     × (epochs_after (s ∷ older) (installation_outputs d) ≡ t.epoch ∷ s ∷ older)
-    × (due_by object n (install d) (s ∷ older) (installation_outputs d)
+    × (due_of_outputs object n (install d) (s ∷ older) (installation_outputs d)
     ≡ due_at_regular n.group d.running.members (s ∷ older)
-    ++ due_by object n (install d) (epoch_opening d.running.ring d.running.members ∷ s ∷ older) (delivered_from d d.running.ring 0 0))
+    ++ due_of_outputs object n (install d) (epoch_opening d.running.ring d.running.members ∷ s ∷ older) (delivered_from d d.running.ring 0 0))
 configured_told {O} {A} object n d s older =
     let new = epoch_opening d.running.ring d.running.members in
     let told = delivered_told object n (install d) d d.running.ring new (s ∷ older) 0 0 (le_refl 0) zero-le in
     let rest : Message A → Out A = λ x. Rest x.ring x.number x in
-    let xs = rests (plan d) d.held in
+    let xs = rest_messages (plan d) d.held in
     let more = RegularOut d.running.ring d.running.members ∷ delivered_from d d.running.ring 0 0 in
     let silent : epochs_after (s ∷ older) (map rest xs) ≡ s ∷ older = silent_through rest (λ x epochs. refl) xs (s ∷ older) in (
       told.0,
       told.1,
       through-append (s ∷ older) (map rest xs) more ∙ ap (λ l. epochs_after l more) silent ∙ told.0.epochs,
       due-append object n (install d) (s ∷ older) (map rest xs) more
-          ∙ ap (λ due. due ++ due_by object n (install d) (epochs_after (s ∷ older) (map rest xs)) more)
+          ∙ ap (λ due. due ++ due_of_outputs object n (install d) (epochs_after (s ∷ older) (map rest xs)) more)
           (silent_due object n (install d) rest (λ x epochs. refl) (λ x epochs. refl) xs (s ∷ older))
-          ∙ ap (λ l. due_by object n (install d) l more) silent,
+          ∙ ap (λ l. due_of_outputs object n (install d) l more) silent,
     )
 
 module _ {O A : Type 0} (object : Sequential O) (n : Node A) (s : Epoch A) (older : List (Epoch A)) (d : Core A) (sends : List (OutgoingFrame A))
     (h : Stands n.group n.core s s.sent) (rises : mark n.core n.core.installed.ring ≤ mark d n.core.installed.ring)
     (same : d.installed ≡ n.core.installed) (kept : d.installs ≡ n.core.installs) (rings : rings_of (s ∷ older) ≡ installed_rings n.core.installs)
     (below : d.installed.ring.seq < d.running.ring.seq) where
-  pub installs_step : IsStep object n (install d) (s ∷ older) ((sent sends ++ given n.core d) ++ installation_outputs d)
+  pub installs_step : IsStep object n (install d) (s ∷ older) ((sent sends ++ agreed_and_safe_of_step n.core d) ++ installation_outputs d)
   installs_step =
       let c = n.core in
-      let outs = sent sends ++ given c d in
+      let outs = sent sends ++ agreed_and_safe_of_step c d in
       let v = given_told object n (install d) c d sends s older h.marked rises in
       let t = v.0 in
       let k = configured_told object n d t.epoch older in
       let u = k.0 in
       let new = epoch_opening d.running.ring d.running.members in
       let first = due_at_regular n.group d.running.members (t.epoch ∷ older) in
-      let more = due_by object n (install d) (new ∷ t.epoch ∷ older) (delivered_from d d.running.ring 0 0) in
-      let silent : due_by object n (install d) (s ∷ older) outs ≡ [] =
+      let more = due_of_outputs object n (install d) (new ∷ t.epoch ∷ older) (delivered_from d d.running.ring 0 0) in
+      let silent : due_of_outputs object n (install d) (s ∷ older) outs ≡ [] =
       none_left _ t.due.needs (λ p. installs_other d c.installed.ring (ap (λ (x : Configuration). x.ring) same) below p.runs_here) in
-      let due : due_by object n (install d) (s ∷ older) (outs ++ installation_outputs d) ≡ first ++ more =
+      let due : due_of_outputs object n (install d) (s ∷ older) (outs ++ installation_outputs d) ≡ first ++ more =
       due-append object n (install d) (s ∷ older) outs (installation_outputs d)
-      ∙ ap (λ x. x ++ due_by object n (install d) (epochs_after (s ∷ older) outs) (installation_outputs d)) silent
-      ∙ ap (λ l. due_by object n (install d) l (installation_outputs d)) t.epochs
+      ∙ ap (λ x. x ++ due_of_outputs object n (install d) (epochs_after (s ∷ older) outs) (installation_outputs d)) silent
+      ∙ ap (λ l. due_of_outputs object n (install d) l (installation_outputs d)) t.epochs
       ∙ k.3 in
       let may : MaySendFirst n.group new (t.epoch ∷ older) (first ++ more) = may_first n.group new (t.epoch ∷ older) _ more u.due (λ p. p.primary) in
       record {
@@ -263,7 +263,7 @@ module _ {O A : Type 0} (object : Sequential O) (n : Node A) (s : Epoch A) (olde
             (subst (λ (l : List (Epoch A)). AllMayHappen n.group l (Regular d.running.ring d.running.members ∷ u.events)) (sym t.lived_on) (tt, u.may));
         lived_on = events-append (s ∷ older) t.events (Regular d.running.ring d.running.members ∷ u.events)
             ∙ ap (λ l. epochs_after_events l (Regular d.running.ring d.running.members ∷ u.events)) t.lived_on ∙ u.lived_on;
-        hand = subst (λ said. MaySendAfter n.group u.epoch (t.epoch ∷ older) said (due_by object n (install d) (s ∷ older) (outs ++ installation_outputs d)))
+        hand = subst (λ said. MaySendAfter n.group u.epoch (t.epoch ∷ older) said (due_of_outputs object n (install d) (s ∷ older) (outs ++ installation_outputs d)))
             (sym u.sent_is)
             (subst (λ x. MaySendFirst n.group u.epoch (t.epoch ∷ older) x) (sym due)
             (first_same n.group new u.epoch (t.epoch ∷ older) (first ++ more) (sym u.members_is) may));

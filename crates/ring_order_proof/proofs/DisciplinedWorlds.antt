@@ -9,21 +9,21 @@ use Rattle.ring_object.specs.Operations.{Sequential}
 use Rattle.ring_payload.specs.declared.call.Call.{Call as OneCall}
 use Rattle.ring_wire.specs.declared.frame.Frame.{Frame}
 use Rattle.ring_core_spec.specs.State.{Transmission, frame_at}
-use Rattle.ring_log.specs.Epochs.{Epoch, epoch_opening, above}
+use Rattle.ring_log.specs.Epochs.{Epoch, epoch_opening, number_above_rings}
 use Rattle.ring_log.specs.KnownLog.{known_log_of}
 use Rattle.ring_log.specs.EpochHistories.{whole_epochs}
-use Rattle.ring_core_proof.specs.LawWords.{IsFalling}
+use Rattle.ring_core_proof.specs.LawConditions.{IsFalling}
 use Rattle.ring_node_spec.specs.declared.input.Input.{Input as NodeInput}
 use Rattle.ring_node_spec.specs.declared.input.Input.TheVariants.{Frame as NodeFrame, Timeout as NodeTime}
 use Rattle.ring_node_spec.specs.Nodes.{Node, node_opening}
 use Rattle.ring_node_spec.specs.Stepping.{submit_fault}
 use Rattle.ring_node_spec.specs.declared.event.Event.{Event}
 use Rattle.ring_node_spec.specs.declared.event.Event.TheVariants.{Issue, Deliver, Noise, Timeout, Stop}
-use Rattle.ring_node_spec.specs.Worlds.{World, put, world_opening, is_node, issued_or, issued_if, stopped_if}
-use Rattle.ring_node_spec.specs.Worlds.{stepped_if, handed_if, handed, happens, run, epochs_in, whole_epochs_in}
+use Rattle.ring_node_spec.specs.Worlds.{World, with_node, world_opening, is_node, world_after_submit, world_after_submit_if_member, world_after_stop_if_member}
+use Rattle.ring_node_spec.specs.Worlds.{world_after_input_if_member, world_after_receipt_if_sent, world_after_delivery, world_after_event, run, epochs_in, whole_epochs_in}
 use Rattle.ring_log_proof.specs.RingFacts.{HasEpoch, Rises}
 use Rattle.ring_log_proof.specs.Discipline.{KeepsDiscipline, DropsOnlyCommitted, DropsCommitted, KeepsRules}
-use Rattle.ring_log_proof.specs.Time.{AllMayHappen, IsEpochsExtended}
+use Rattle.ring_log_proof.specs.EpochEvents.{AllMayHappen, IsEpochsExtended}
 use Rattle.ring_log_proof.proofs.RunEpochs.{on-self, on-trans, events-on, events-orderly}
 use Rattle.ring_synchrony_proof.proofs.Ordered.{opening_ordered}
 use Rattle.ring_log_proof.proofs.FilledEpochs.{rules-whole}
@@ -72,40 +72,40 @@ all_same group w k = record { group_is = refl; nodes = λ i. same_goes_on group 
 
 one_put : {A : Type 0} → (group : Group) (nodes : ℕ → Node A) (i : ℕ) (n : Node A) → ((j : ℕ) → IsNodeKept group (nodes j)) → GoesOn group (nodes i) n
     → (j : ℕ) →
-    GoesOn group (nodes j) (put nodes i n j)
+    GoesOn group (nodes j) (with_node nodes i n j)
 one_put {A} group nodes i n k g j =
     cond_both (j == i) n (nodes j) (λ (m : Node A). GoesOn group (nodes j) m)
     (λ e. subst (λ q. GoesOn group (nodes q) n) (sym (eqb-true j i e)) g) (λ e. same_goes_on group (nodes j) (k j))
 
 module _ {O A : Type 0} (object : Sequential O) (group : Group) (w : World A) (k : AllKept group w) where
-  steps_on : (i : ℕ) (input : NodeInput A) (b : Bool) → AllGoOn group w (stepped_if object b w i input)
+  steps_on : (i : ℕ) (input : NodeInput A) (b : Bool) → AllGoOn group w (world_after_input_if_member object b w i input)
   steps_on i input false = all_same group w k
   steps_on i input true =
       record { group_is = refl; nodes = one_put group w.nodes i _ k (goes_on group (w.nodes i) _ (k i) (node_becomes object (w.nodes i) input (k i).orderly)) }
 
-  issues_or : (i : ℕ) (c : OneCall A) (fault : Option Fault) → AllGoOn group w (issued_or fault w i c)
+  issues_or : (i : ℕ) (c : OneCall A) (fault : Option Fault) → AllGoOn group w (world_after_submit fault w i c)
   issues_or i c (Some fault) = record { group_is = refl; nodes = λ j. same_goes_on group (w.nodes j) (k j) }
   issues_or i c None =
       record { group_is = refl; nodes = one_put group w.nodes i _ k (goes_on group (w.nodes i) _ (k i) (node_submits (w.nodes i) c (k i).orderly)) }
 
-  issues_if : (i : ℕ) (c : OneCall A) (b : Bool) → AllGoOn group w (issued_if b w i c)
+  issues_if : (i : ℕ) (c : OneCall A) (b : Bool) → AllGoOn group w (world_after_submit_if_member b w i c)
   issues_if i c false = all_same group w k
   issues_if i c true = issues_or i c (submit_fault (w.nodes i))
 
-  stops_if : (i : ℕ) (b : Bool) → AllGoOn group w (stopped_if b w i)
+  stops_if : (i : ℕ) (b : Bool) → AllGoOn group w (world_after_stop_if_member b w i)
   stops_if i false = all_same group w k
   stops_if i true =
       record { group_is = refl; nodes = one_put group w.nodes i _ k (goes_on group (w.nodes i) _ (k i) (node_stops (w.nodes i) (k i).orderly)) }
 
-  hands_if : (i : ℕ) (frame : Frame A) (b : Bool) → AllGoOn group w (handed_if object b w i frame)
+  hands_if : (i : ℕ) (frame : Frame A) (b : Bool) → AllGoOn group w (world_after_receipt_if_sent object b w i frame)
   hands_if i frame false = all_same group w k
   hands_if i frame true = steps_on i (NodeFrame frame) (is_node w i)
 
-  hands_on : (i : ℕ) (f : Option (Transmission A)) → AllGoOn group w (handed object w i f)
+  hands_on : (i : ℕ) (f : Option (Transmission A)) → AllGoOn group w (world_after_delivery object w i f)
   hands_on i None = all_same group w k
   hands_on i (Some f) = hands_if i f.frame (has f.to i)
 
-  event_on : (e : Event A) → AllGoOn group w (happens object w e)
+  event_on : (e : Event A) → AllGoOn group w (world_after_event object w e)
   event_on (Issue i c) = issues_if i c (is_node w i)
   event_on (Deliver i n) = hands_on i (frame_at w.frames n)
   event_on (Noise i bytes) = all_same group w k
@@ -124,8 +124,8 @@ pub run_on : {O A : Type 0} → (object : Sequential O) (group : Group) (w : Wor
 run_on object group w k [] = all_same group w k
 run_on object group w k (e ∷ events) =
     let one = event_on object group w k e in
-    then_on group w (happens object w e) (run object (happens object w e) events) one
-    (run_on object group (happens object w e) (λ i. (one.nodes i).kept) events)
+    then_on group w (world_after_event object w e) (run object (world_after_event object w e) events) one
+    (run_on object group (world_after_event object w e) (λ i. (one.nodes i).kept) events)
 
 -- At the opening
 
@@ -194,7 +194,7 @@ own_on {O} {A} object group before later i =
     cond_on false x y h = tt
 
 -- the rings below a life's bound
-pub below_above : {A : Type 0} → (epochs : List (Epoch A)) → Rises epochs → (s : Epoch A) (older : List (Epoch A)) → HasEpoch epochs s older → s.ring.seq < above epochs
+pub below_above : {A : Type 0} → (epochs : List (Epoch A)) → Rises epochs → (s : Epoch A) (older : List (Epoch A)) → HasEpoch epochs s older → s.ring.seq < number_above_rings epochs
 below_above [] r s older i = absurd i
 below_above (t ∷ before) r s older (inl e) = omega (arith, seq-same e.0)
 below_above (t ∷ before) r s older (inr i) = omega (arith, top-above t before s older r i)
@@ -202,7 +202,7 @@ below_above (t ∷ before) r s older (inr i) = omega (arith, top-above t before 
 -- With the places that snapshots stand for
 
 abbrev pub tops : {A : Type 0} → World A → ℕ → ℕ
-tops w p = above (epochs_in w p)
+tops w p = number_above_rings (epochs_in w p)
 
 pub run_group : {O A : Type 0} → (object : Sequential O) (group : Group) (events : List (Event A)) → (run object (world_opening group) events).group ≡ group
 run_group object group events = (opened_on object group events).group_is

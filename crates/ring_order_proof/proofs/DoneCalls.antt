@@ -20,17 +20,17 @@ use Rattle.ring_log.specs.EpochHistories.{committed_of}
 use Rattle.ring_log.proofs.CommittedOf.{epochs_with_sends-kept}
 use Rattle.ring_session.specs.Table.{Table, opening, table_next, table_after}
 use Rattle.ring_session.specs.Tickets.{TicketCall, answers_after}
-use Rattle.ring_session.specs.declared.answered.TicketAnswer.{TicketAnswer}
+use Rattle.ring_session.specs.declared.ticket_answer.TicketAnswer.{TicketAnswer}
 use Rattle.ring_session.proofs.AnswersGrow.{answers_after-push}
 use Rattle.ring_node_spec.specs.Nodes.{Node, node_known_log, node_stopped}
-use Rattle.ring_node_spec.specs.Stepping.{newly_committed, table_since, node_step, due_by_submit, submit_fault, submitted}
+use Rattle.ring_node_spec.specs.Stepping.{newly_committed, table_since, node_step, due_by_submit, submit_fault, node_after_submit}
 use Rattle.ring_node_spec.specs.declared.input.Input.{Input}
 use Rattle.ring_node_spec.specs.declared.input.Input.TheVariants.{Frame as FrameInput, Timeout as TimeInput}
 use Rattle.ring_node_spec.specs.declared.event.Event.{Event}
 use Rattle.ring_node_spec.specs.declared.event.Event.TheVariants.{Issue, Deliver, Noise, Timeout, Stop}
-use Rattle.ring_node_spec.specs.Worlds.{World, world_opening, put, is_node, issued_or, issued_if, stopped_if, stepped_if, handed_if, handed, happens, run}
+use Rattle.ring_node_spec.specs.Worlds.{World, world_opening, with_node, is_node, world_after_submit, world_after_submit_if_member, world_after_stop_if_member, world_after_input_if_member, world_after_receipt_if_sent, world_after_delivery, world_after_event, run}
 use Rattle.ring_order_proof.specs.Done.{Span, places_in, done_in, answers_in, HasDone}
-use Rattle.ring_order_proof.specs.Linear.{EventKeeps}
+use Rattle.ring_order_proof.specs.Linear.{IsEventCallWithinLimits}
 use Rattle.ring_order_proof.specs.RunEpochs.{whole_epochs_in}
 use Rattle.ring_order_proof.proofs.CommittingSteps.{HasSoundEpochs, Moves, StillKnows, step-moves, commits}
 use Rattle.ring_order_proof.proofs.OrderSteps.{AllKnow, whole-grows, still-know}
@@ -148,12 +148,12 @@ module _ {O A : Type 0} (object : Sequential O) where
         | inr m ↦ moved-done n input whole whole' g m h
       ]
 
-  submit-done : (n : Node A) (c : Call A) (whole whole' : List (Call A)) → StillKnows object n (submitted n c) whole whole' → HasDone object n whole
-      → HasDone object (submitted n c) whole'
+  submit-done : (n : Node A) (c : Call A) (whole whole' : List (Call A)) → StillKnows object n (node_after_submit n c) whole whole' → HasDone object n whole
+      → HasDone object (node_after_submit n c) whole'
   submit-done n c whole whole' g h =
       let t : TicketCall A = record { call = c; since = length n.done } in
-      let kept : node_known_log (submitted n c) ≡ node_known_log n = epochs_with_sends-kept n.group (due_by_submit n c) n.epochs in
-      let same = same-whole n (submitted n c) whole whole' g kept in
+      let kept : node_known_log (node_after_submit n c) ≡ node_known_log n = epochs_with_sends-kept n.group (due_by_submit n c) n.epochs in
+      let same = same-whole n (node_after_submit n c) whole whole' g kept in
       let long = ap length h.done in
       record {
         spans = h.spans;
@@ -177,10 +177,10 @@ module _ {O A : Type 0} (object : Sequential O) where
 
     -- replacing one node's value
     put-done : (nodes : ℕ → Node A) (whole whole' : ℕ → List (Call A)) (i : ℕ) (new : Node A)
-        → ((j : ℕ) → 1 ≤ j → j ≤ group.count → StillKnows object (nodes j) (put nodes i new j) (whole j) (whole' j))
+        → ((j : ℕ) → 1 ≤ j → j ≤ group.count → StillKnows object (nodes j) (with_node nodes i new j) (whole j) (whole' j))
         → (StillKnows object (nodes i) new (whole i) (whole' i) → HasDone object (nodes i) (whole i) → HasDone object new (whole' i))
         → ((j : ℕ) → 1 ≤ j → j ≤ group.count → HasDone object (nodes j) (whole j))
-        → (j : ℕ) → 1 ≤ j → j ≤ group.count → HasDone object (put nodes i new j) (whole' j)
+        → (j : ℕ) → 1 ≤ j → j ≤ group.count → HasDone object (with_node nodes i new j) (whole' j)
     put-done nodes whole whole' i new still step all j low high =
         cond_both (j == i) new (nodes j) (λ (m : Node A). StillKnows object (nodes j) m (whole j) (whole' j) → HasDone object m (whole' j))
         (λ e k. subst (λ q. StillKnows object (nodes q) new (whole q) (whole' q) → HasDone object (nodes q) (whole q) → HasDone object new (whole' q))
@@ -189,42 +189,42 @@ module _ {O A : Type 0} (object : Sequential O) where
         (still j low high)
 
     module _ (w : World A) (steady : (i : ℕ) → HasSoundEpochs (w.nodes i)) (all : AllDone w) where
-      steps-done : (b : Bool) (i : ℕ) (input : Input A) → AllStill w (stepped_if object b w i input) → AllDone (stepped_if object b w i input)
+      steps-done : (b : Bool) (i : ℕ) (input : Input A) → AllStill w (world_after_input_if_member object b w i input) → AllDone (world_after_input_if_member object b w i input)
       steps-done false i input still = all
       steps-done true i input still =
-          let w' = stepped_if object true w i input in
+          let w' = world_after_input_if_member object true w i input in
           put-done w.nodes (CompleteExchange w) (CompleteExchange w') i (node_step object (w.nodes i) input).node still
           (step-done (w.nodes i) input (CompleteExchange w i) (CompleteExchange w' i) (steady i)) all
 
-      issued-done : (o : Option Fault) (i : ℕ) (c : Call A) → AllStill w (issued_or o w i c) → AllDone (issued_or o w i c)
+      issued-done : (o : Option Fault) (i : ℕ) (c : Call A) → AllStill w (world_after_submit o w i c) → AllDone (world_after_submit o w i c)
       issued-done (Some fault) i c still = all
       issued-done None i c still =
-          let w' = issued_or None w i c in
-          put-done w.nodes (CompleteExchange w) (CompleteExchange w') i (submitted (w.nodes i) c) still (submit-done (w.nodes i) c (CompleteExchange w i) (CompleteExchange w' i)) all
+          let w' = world_after_submit None w i c in
+          put-done w.nodes (CompleteExchange w) (CompleteExchange w') i (node_after_submit (w.nodes i) c) still (submit-done (w.nodes i) c (CompleteExchange w i) (CompleteExchange w' i)) all
 
-      issue-done : (b : Bool) (i : ℕ) (c : Call A) → AllStill w (issued_if b w i c) → AllDone (issued_if b w i c)
+      issue-done : (b : Bool) (i : ℕ) (c : Call A) → AllStill w (world_after_submit_if_member b w i c) → AllDone (world_after_submit_if_member b w i c)
       issue-done false i c still = all
       issue-done true i c still = issued-done (submit_fault (w.nodes i)) i c still
 
-      stop-done : (b : Bool) (i : ℕ) → AllStill w (stopped_if b w i) → AllDone (stopped_if b w i)
+      stop-done : (b : Bool) (i : ℕ) → AllStill w (world_after_stop_if_member b w i) → AllDone (world_after_stop_if_member b w i)
       stop-done false i still = all
       stop-done true i still =
-          let w' = stopped_if true w i in
+          let w' = world_after_stop_if_member true w i in
           put-done w.nodes (CompleteExchange w) (CompleteExchange w') i (node_stopped (w.nodes i)) still
           (λ k h. same-done (w.nodes i) (node_stopped (w.nodes i)) (CompleteExchange w i) (CompleteExchange w' i) k
           (record { kept = refl; done = refl; answers = refl; tickets = refl }) h) all
 
-      frame-done : (b : Bool) (f : Transmission A) (i : ℕ) → AllStill w (handed_if object b w i f.frame) → AllDone (handed_if object b w i f.frame)
+      frame-done : (b : Bool) (f : Transmission A) (i : ℕ) → AllStill w (world_after_receipt_if_sent object b w i f.frame) → AllDone (world_after_receipt_if_sent object b w i f.frame)
       frame-done false f i still = all
       frame-done true f i still = steps-done (is_node w i) i (FrameInput f.frame) still
 
-      handed-done : (o : Option (Transmission A)) (i : ℕ) → AllStill w (handed object w i o) → AllDone (handed object w i o)
-      handed-done None i still = all
-      handed-done (Some f) i still = frame-done (has f.to i) f i still
+      world_after_delivery-done : (o : Option (Transmission A)) (i : ℕ) → AllStill w (world_after_delivery object w i o) → AllDone (world_after_delivery object w i o)
+      world_after_delivery-done None i still = all
+      world_after_delivery-done (Some f) i still = frame-done (has f.to i) f i still
 
-      event-done : (e : Event A) → AllStill w (happens object w e) → AllDone (happens object w e)
+      event-done : (e : Event A) → AllStill w (world_after_event object w e) → AllDone (world_after_event object w e)
       event-done (Issue i c) still = issue-done (is_node w i) i c still
-      event-done (Deliver i n) still = handed-done (frame_at w.frames n) i still
+      event-done (Deliver i n) still = world_after_delivery-done (frame_at w.frames n) i still
       event-done (Noise i bytes) still = all
       event-done (Timeout i kind) still = steps-done (is_node w i) i (TimeInput kind) still
       event-done (Stop i) still = stop-done (is_node w i) i still
@@ -233,21 +233,21 @@ module _ {O A : Type 0} (object : Sequential O) where
       abbrev at : List (Event A) → World A
       at events = run object (world_opening group) events
 
-      next-still : (before : List (Event A)) (e : Event A) → Each EventKeeps before → Each EventKeeps (before ++ e ∷ [])
-          → AllStill (at before) (happens object (at before) e)
+      next-still : (before : List (Event A)) (e : Event A) → Each IsEventCallWithinLimits before → Each IsEventCallWithinLimits (before ++ e ∷ [])
+          → AllStill (at before) (world_after_event object (at before) e)
       next-still before e limits more =
           let w = at before in
-          let w' = happens object w e in
+          let w' = world_after_event object w e in
           let know' = subst (λ (x : World A). AllKnow object group x) (run-more object (world_opening group) before e)
           (know object group few back (before ++ e ∷ []) more) in
           still-know object group w w' (know object group few back before limits) know'
           (whole-grows group w w' (orderly object group few before) (orderly-after object group few before e) (lives_on object group few before (e ∷ [])))
 
-      run-done : (before later : List (Event A)) → Each EventKeeps before → Each EventKeeps later → AllDone (at before) → AllDone (run object (at before) later)
+      run-done : (before later : List (Event A)) → Each IsEventCallWithinLimits before → Each IsEventCallWithinLimits later → AllDone (at before) → AllDone (run object (at before) later)
       run-done before [] limits more all = all
       run-done before (e ∷ later) limits more all =
-          let w = happens object (at before) e in
-          let next = each-append EventKeeps before (e ∷ []) limits (more.0, tt) in
+          let w = world_after_event object (at before) e in
+          let next = each-append IsEventCallWithinLimits before (e ∷ []) limits (more.0, tt) in
           let now : AllDone w = event-done (at before) (steady object group few before) all e (next-still before e limits next) in
           let same = run-more object (world_opening group) before e in
           subst (λ (x : World A). AllDone (run object x later)) same
@@ -258,5 +258,5 @@ module _ {O A : Type 0} (object : Sequential O) where
           let none = sym (opening-none group i) in
           record { spans = []; places = none; done = refl; answers = refl; all = λ e. none }
 
-      pub all_done : (events : List (Event A)) → Each EventKeeps events → AllDone (at events)
+      pub all_done : (events : List (Event A)) → Each IsEventCallWithinLimits events → AllDone (at events)
       all_done events limits = run-done [] events tt limits opens

@@ -16,16 +16,16 @@ use Rattle.ring_core_spec.specs.declared.out.Out.TheVariants.{Send as SendOut, A
 use Rattle.ring_core_spec.specs.State.{Core, OutgoingFrame}
 use Rattle.ring_core_spec.specs.Views.{front, mark, plan}
 use Rattle.ring_core_spec.specs.Deciding.{decide}
-use Rattle.ring_core_spec.specs.Transitions.{done}
-use Rattle.ring_core_spec.specs.Giving.{may_install, addressed, sent, users, agreed_from, safe_from, delivered_from, given, installation_outputs, settle}
+use Rattle.ring_core_spec.specs.Transitions.{transition_and_proposal}
+use Rattle.ring_core_spec.specs.Giving.{may_install, sends_with_receivers, sent, user_messages_between, agreed_from, safe_from, delivered_from, agreed_and_safe_of_step, installation_outputs, with_installation_if}
 use Rattle.ring_core_spec.specs.Stepping.{ring_step}
-use Rattle.ring_core_spec.specs.Recoveries.{rests}
+use Rattle.ring_core_spec.specs.Recoveries.{rest_messages}
 use Rattle.ring_log.specs.declared.wanted.Wanted.{Wanted}
 use Rattle.ring_log.specs.Exchanges.{exchange_opening, wanted}
 use Rattle.ring_log.specs.Epochs.{Epoch, epoch_opening}
-use Rattle.ring_log.specs.EpochHistories.{CompleteExchange, complete_exchange_from, complete_exchange, upto}
-use Rattle.ring_log.specs.KnownLog.{KnownLog, restores, known_log_restored, known_log_joined, adopts, adopts_wanted, kept_by, dropped_by, known_log_of}
-use Rattle.ring_log_proof.specs.Time.{IsEpochExtended}
+use Rattle.ring_log.specs.EpochHistories.{CompleteExchange, complete_exchange_from, complete_exchange, messages_upto}
+use Rattle.ring_log.specs.KnownLog.{KnownLog, restores, known_log_restored, known_log_joined, adopts, adopts_wanted, known_log_after_epoch, dropped_by, known_log_of}
+use Rattle.ring_log_proof.specs.EpochEvents.{IsEpochExtended}
 use Rattle.ring_log_proof.proofs.KnownGrows.{adopts-grown, known-longer_list}
 use Rattle.ring_log_proof.proofs.CompleteExchanges.{grown, complete_exchange-front}
 use Rattle.ring_node_spec.specs.EpochHistories.{epochs_after}
@@ -64,7 +64,7 @@ adopts-goes {A} k ring w = by (wanted w.exchange)
         record { committed = omega (arith, lt); trimmed = inr (refl, omega (arith, lt)) })
         (λ f. record { committed = omega arith; trimmed = inl (refl, refl) })
 
-kept-goes : {A : Type 0} (k : KnownLog A) (ring : RingId) (o safe : Option (CompleteExchange A)) → GoesOn k (kept_by ring k o safe)
+kept-goes : {A : Type 0} (k : KnownLog A) (ring : RingId) (o safe : Option (CompleteExchange A)) → GoesOn k (known_log_after_epoch ring k o safe)
 kept-goes k ring None safe = goes-self k
 kept-goes k ring (Some w) safe =
     let a = adopts-goes k ring w in
@@ -86,7 +86,7 @@ installs-goes : {A : Type 0} (group : Group) (epochs : List (Epoch A)) (ring : R
 installs-goes group epochs ring members =
     let k = known_log_of group epochs in
     let none : max 0 k.trimmed ≡ k.trimmed = omega arith in
-    let g = drop-goes 0 k (kept_by ring k (complete_exchange group members []) (complete_exchange group members [])) refl
+    let g = drop-goes 0 k (known_log_after_epoch ring k (complete_exchange group members []) (complete_exchange group members [])) refl
     (kept-goes k ring (complete_exchange group members []) (complete_exchange group members [])) in
     goes-trans k (dropped_by 0 k) (known_log_of group (epoch_opening ring members ∷ epochs))
     (record { committed = omega arith; trimmed = inl (none, refl) }) g
@@ -98,22 +98,22 @@ module _ {A : Type 0} (group : Group) (s : Epoch A) (older : List (Epoch A)) whe
   k = known_log_of group older
 
   abbrev safe_of : Epoch A → Option (CompleteExchange A)
-  safe_of t = complete_exchange group t.members (upto t.mark t.heard)
+  safe_of t = complete_exchange group t.members (messages_upto t.mark t.heard)
 
   -- the trimmed length depends only on what was adopted
   same-goes : (t : Epoch A) (o : Option (CompleteExchange A)) → s.trimmed ≡ t.trimmed
-      → (known_log_of group (s ∷ older)).committed ≤ (dropped_by t.trimmed (kept_by s.ring k o (safe_of t))).committed
+      → (known_log_of group (s ∷ older)).committed ≤ (dropped_by t.trimmed (known_log_after_epoch s.ring k o (safe_of t))).committed
       → complete_exchange group s.members s.heard ≡ o
-      → GoesOn (known_log_of group (s ∷ older)) (dropped_by t.trimmed (kept_by s.ring k o (safe_of t)))
+      → GoesOn (known_log_of group (s ∷ older)) (dropped_by t.trimmed (known_log_after_epoch s.ring k o (safe_of t)))
   same-goes t o same le e =
-      let was : dropped_by s.trimmed (kept_by s.ring k o (safe_of s)) ≡ known_log_of group (s ∷ older) =
-      sym (ap (λ x. dropped_by s.trimmed (kept_by s.ring k x (safe_of s))) e) in
-      subst (λ (x : KnownLog A). GoesOn x (dropped_by t.trimmed (kept_by s.ring k o (safe_of t)))) was
-      (by o (subst (λ (x : KnownLog A). x.committed ≤ (dropped_by t.trimmed (kept_by s.ring k o (safe_of t))).committed) (sym was) le))
+      let was : dropped_by s.trimmed (known_log_after_epoch s.ring k o (safe_of s)) ≡ known_log_of group (s ∷ older) =
+      sym (ap (λ x. dropped_by s.trimmed (known_log_after_epoch s.ring k x (safe_of s))) e) in
+      subst (λ (x : KnownLog A). GoesOn x (dropped_by t.trimmed (known_log_after_epoch s.ring k o (safe_of t)))) was
+      (by o (subst (λ (x : KnownLog A). x.committed ≤ (dropped_by t.trimmed (known_log_after_epoch s.ring k o (safe_of t))).committed) (sym was) le))
     where
       by : (o : Option (CompleteExchange A))
-          → (dropped_by s.trimmed (kept_by s.ring k o (safe_of s))).committed ≤ (dropped_by t.trimmed (kept_by s.ring k o (safe_of t))).committed
-          → GoesOn (dropped_by s.trimmed (kept_by s.ring k o (safe_of s))) (dropped_by t.trimmed (kept_by s.ring k o (safe_of t)))
+          → (dropped_by s.trimmed (known_log_after_epoch s.ring k o (safe_of s))).committed ≤ (dropped_by t.trimmed (known_log_after_epoch s.ring k o (safe_of t))).committed
+          → GoesOn (dropped_by s.trimmed (known_log_after_epoch s.ring k o (safe_of s))) (dropped_by t.trimmed (known_log_after_epoch s.ring k o (safe_of t)))
       by None le = record { committed = le; trimmed = inl (ap (λ n. max n k.trimmed) (sym same), refl) }
       by (Some w) le = record { committed = le; trimmed = inl (ap (λ n. max n (adopts k s.ring w).trimmed) (sym same), refl) }
 
@@ -149,36 +149,36 @@ module _ {A : Type 0} (group : Group) (s : Epoch A) (older : List (Epoch A)) whe
 
     -- the exchange is complete now, and wasn't before
     becomes-goes : (o : Option (CompleteExchange A)) → complete_exchange group s.members s.heard ≡ None → complete_exchange group s.members (s.heard ++ x ∷ []) ≡ o
-        → GoesOn (known_log_of group (s ∷ older)) (dropped_by s.trimmed (kept_by s.ring k o (safe_of t)))
+        → GoesOn (known_log_of group (s ∷ older)) (dropped_by s.trimmed (known_log_after_epoch s.ring k o (safe_of t)))
     becomes-goes None e f =
-        let was : dropped_by s.trimmed k ≡ known_log_of group (s ∷ older) = sym (ap (λ y. dropped_by s.trimmed (kept_by s.ring k y (safe_of s))) e) in
+        let was : dropped_by s.trimmed k ≡ known_log_of group (s ∷ older) = sym (ap (λ y. dropped_by s.trimmed (known_log_after_epoch s.ring k y (safe_of s))) e) in
         subst (λ (y : KnownLog A). GoesOn y (dropped_by s.trimmed k)) was (goes-self (dropped_by s.trimmed k))
     becomes-goes (Some w) e f =
-        let was : dropped_by s.trimmed k ≡ known_log_of group (s ∷ older) = sym (ap (λ y. dropped_by s.trimmed (kept_by s.ring k y (safe_of s))) e) in
+        let was : dropped_by s.trimmed k ≡ known_log_of group (s ∷ older) = sym (ap (λ y. dropped_by s.trimmed (known_log_after_epoch s.ring k y (safe_of s))) e) in
         let primary : is_primary group s.members ≡ true =
         cond_both (is_primary group s.members) (complete_exchange_from (exchange_opening s.members) (s.heard ++ x ∷ [])) None
         (λ (y : Option (CompleteExchange A)). y ≡ Some w → is_primary group s.members ≡ true) (λ p g. p) (λ p g. absurd (cc g)) f in
         let unclosed : is_closed group (s ∷ older) ≡ false =
         ap (λ b. not b || is_some (complete_exchange group s.members s.heard)) primary ∙ ap is_some e in
-        subst (λ (y : KnownLog A). GoesOn y (dropped_by s.trimmed (kept_by s.ring k (Some w) (safe_of t)))) was
-        (drop-goes s.trimmed k (kept_by s.ring k (Some w) (safe_of t)) (frozen unclosed) (kept-goes k s.ring (Some w) (safe_of t)))
+        subst (λ (y : KnownLog A). GoesOn y (dropped_by s.trimmed (known_log_after_epoch s.ring k (Some w) (safe_of t)))) was
+        (drop-goes s.trimmed k (known_log_after_epoch s.ring k (Some w) (safe_of t)) (frozen unclosed) (kept-goes k s.ring (Some w) (safe_of t)))
 
     -- it was complete before
     stays-goes : (w : CompleteExchange A) → complete_exchange group s.members s.heard ≡ Some w → GoesOn (known_log_of group (s ∷ older)) (known_log_of group (t ∷ older))
     stays-goes w e =
         let now : complete_exchange group s.members (s.heard ++ x ∷ []) ≡ Some (grown w (x ∷ [])) =
         complete_exchange-front group s.members s.heard (s.heard ++ x ∷ []) w e (x ∷ [], refl) in
-        let was : dropped_by s.trimmed (kept_by s.ring k (Some w) (safe_of s)) ≡ known_log_of group (s ∷ older) =
-        sym (ap (λ y. dropped_by s.trimmed (kept_by s.ring k y (safe_of s))) e) in
-        let is : dropped_by s.trimmed (kept_by s.ring k (Some (grown w (x ∷ []))) (safe_of t)) ≡ known_log_of group (t ∷ older) =
-        sym (ap (λ y. dropped_by s.trimmed (kept_by s.ring k y (safe_of t))) now) in
+        let was : dropped_by s.trimmed (known_log_after_epoch s.ring k (Some w) (safe_of s)) ≡ known_log_of group (s ∷ older) =
+        sym (ap (λ y. dropped_by s.trimmed (known_log_after_epoch s.ring k y (safe_of s))) e) in
+        let is : dropped_by s.trimmed (known_log_after_epoch s.ring k (Some (grown w (x ∷ []))) (safe_of t)) ≡ known_log_of group (t ∷ older) =
+        sym (ap (λ y. dropped_by s.trimmed (known_log_after_epoch s.ring k y (safe_of t))) now) in
         let same : adopts k s.ring (grown w (x ∷ [])) ≡ adopts k s.ring w = adopts-grown k s.ring w (x ∷ []) in
-        let le : (dropped_by s.trimmed (kept_by s.ring k (Some w) (safe_of s))).committed
-        ≤ (dropped_by s.trimmed (kept_by s.ring k (Some (grown w (x ∷ []))) (safe_of t))).committed =
-        subst (λ (y : KnownLog A). y.committed ≤ (dropped_by s.trimmed (kept_by s.ring k (Some (grown w (x ∷ []))) (safe_of t))).committed) (sym was)
+        let le : (dropped_by s.trimmed (known_log_after_epoch s.ring k (Some w) (safe_of s))).committed
+        ≤ (dropped_by s.trimmed (known_log_after_epoch s.ring k (Some (grown w (x ∷ []))) (safe_of t))).committed =
+        subst (λ (y : KnownLog A). y.committed ≤ (dropped_by s.trimmed (known_log_after_epoch s.ring k (Some (grown w (x ∷ []))) (safe_of t))).committed) (sym was)
         (subst (λ (y : KnownLog A). (known_log_of group (s ∷ older)).committed ≤ y.committed) (sym is) longer_list) in
         subst (λ (y : KnownLog A). GoesOn y (known_log_of group (t ∷ older))) was
-        (subst (λ (y : KnownLog A). GoesOn (dropped_by s.trimmed (kept_by s.ring k (Some w) (safe_of s))) y) is
+        (subst (λ (y : KnownLog A). GoesOn (dropped_by s.trimmed (known_log_after_epoch s.ring k (Some w) (safe_of s))) y) is
         (record {
           committed = le;
           trimmed = inl (ap (λ (y : KnownLog A). max s.trimmed y.trimmed) same, ap (λ (y : KnownLog A). y.from) same);
@@ -249,31 +249,31 @@ delivered-rises : {A : Type 0} (c : Core A) (ring : RingId) (f below m : ℕ) (r
 delivered-rises {A} c ring f below m rest le h =
     subst (AreRising m) (sym (append_assoc (agreed_from c ring f) (safe_from c ring below) rest))
     (plain-rises m (agreed_from c ring f) (safe_from c ring below ++ rest)
-    (plain-mapped (λ (x : Message A). AgreedOut ring x.number x) (λ x. tt) (users c ring f (front c ring)))
+    (plain-mapped (λ (x : Message A). AgreedOut ring x.number x) (λ x. tt) (user_messages_between c ring f (front c ring)))
     (cond_both (nat_lt below (mark c ring)) (SafeOut ring (mark c ring) ∷ []) [] (λ xs. AreRising m (xs ++ rest))
     (λ t. (let lt = ltb-true below (mark c ring) t in omega (arith, le, lt), h (mark c ring))) (λ f. h m)))
 
 installation_outputs-rises : {A : Type 0} (d : Core A) (m : ℕ) → AreRising m (installation_outputs d)
 installation_outputs-rises {A} d m =
     let ys = delivered_from d d.running.ring 0 0 in
-    plain-rises m (map (λ (x : Message A). Rest x.ring x.number x) (rests (plan d) d.held)) (Regular d.running.ring d.running.members ∷ ys)
-    (plain-mapped (λ (x : Message A). Rest x.ring x.number x) (λ x. tt) (rests (plan d) d.held))
+    plain-rises m (map (λ (x : Message A). Rest x.ring x.number x) (rest_messages (plan d) d.held)) (Regular d.running.ring d.running.members ∷ ys)
+    (plain-mapped (λ (x : Message A). Rest x.ring x.number x) (λ x. tt) (rest_messages (plan d) d.held))
     (subst (AreRising 0) (append-nil ys) (delivered-rises d d.running.ring 0 0 0 [] (omega arith) (λ n. tt)))
 
-settle-rises : {A : Type 0} (b : Bool) (c d : Core A) (sends : List (OutgoingFrame A)) (m : ℕ) → m ≤ mark c c.installed.ring
-    → AreRising m (settle b d (sent sends ++ given c d)).outs
-settle-rises {A} false c d sends m le =
+with_installation_if-rises : {A : Type 0} (b : Bool) (c d : Core A) (sends : List (OutgoingFrame A)) (m : ℕ) → m ≤ mark c c.installed.ring
+    → AreRising m (with_installation_if b d (sent sends ++ agreed_and_safe_of_step c d)).outs
+with_installation_if-rises {A} false c d sends m le =
     let r = c.installed.ring in
-    plain-rises m (sent sends) (given c d) (plain-mapped (λ (x : OutgoingFrame A). SendOut x.to x.frame) (λ x. tt) (addressed sends))
-    (subst (AreRising m) (append-nil (given c d)) (delivered-rises d r (front c r) (mark c r) m [] le (λ n. tt)))
-settle-rises {A} true c d sends m le =
+    plain-rises m (sent sends) (agreed_and_safe_of_step c d) (plain-mapped (λ (x : OutgoingFrame A). SendOut x.to x.frame) (λ x. tt) (sends_with_receivers sends))
+    (subst (AreRising m) (append-nil (agreed_and_safe_of_step c d)) (delivered-rises d r (front c r) (mark c r) m [] le (λ n. tt)))
+with_installation_if-rises {A} true c d sends m le =
     let r = c.installed.ring in
-    subst (AreRising m) (sym (append_assoc (sent sends) (given c d) (installation_outputs d)))
-    (plain-rises m (sent sends) (given c d ++ installation_outputs d) (plain-mapped (λ (x : OutgoingFrame A). SendOut x.to x.frame) (λ x. tt) (addressed sends))
+    subst (AreRising m) (sym (append_assoc (sent sends) (agreed_and_safe_of_step c d) (installation_outputs d)))
+    (plain-rises m (sent sends) (agreed_and_safe_of_step c d ++ installation_outputs d) (plain-mapped (λ (x : OutgoingFrame A). SendOut x.to x.frame) (λ x. tt) (sends_with_receivers sends))
     (delivered-rises d r (front c r) (mark c r) m (installation_outputs d) le (installation_outputs-rises d)))
 
 pub core-rises : {A : Type 0} (c : Core A) (input : Input A) (m : ℕ) → m ≤ mark c c.installed.ring → AreRising m (ring_step c input).outs
 unfolding ring_step
 core-rises c input m le =
-    let d = done c (decide c input) in
-    settle-rises (may_install d.core) c d.core d.sends m le
+    let d = transition_and_proposal c (decide c input) in
+    with_installation_if-rises (may_install d.core) c d.core d.sends m le

@@ -27,19 +27,19 @@ use Rattle.ring_core_spec.specs.State.{Core}
 use Rattle.ring_log.specs.declared.wanted.Wanted.{Wanted}
 use Rattle.ring_log.specs.Exchanges.{Exchange, exchange_opening, wanted, is_exchange_complete}
 use Rattle.ring_log.specs.KnownLog.{KnownLog, known_log_of, known_log_length, retained_log, known_log_head, keeps_kept, is_known_log_sound}
-use Rattle.ring_log.specs.EpochHistories.{after_all, complete_exchange}
+use Rattle.ring_log.specs.EpochHistories.{exchange_after_messages, complete_exchange}
 use Rattle.ring_log.specs.Logs.{Log, is_log_length}
 use Rattle.ring_log.specs.Parts.{parts_between, pieces_of}
 use Rattle.ring_log.specs.Epochs.{Epoch, epoch_opening, epochs_with_message, epochs_with_mark, epochs_with_sends, epochs_with_trim}
 use Rattle.ring_log_proof.specs.Discipline.{DropsOnlyCommitted}
 use Rattle.ring_log_proof.specs.RingFacts.{HasEpoch}
-use Rattle.ring_log_proof.specs.Time.{Agreed as AgreedEvent, Safe as SafeEvent, Regular as RegularEvent, IsRaised}
+use Rattle.ring_log_proof.specs.EpochEvents.{Agreed as AgreedEvent, Safe as SafeEvent, Regular as RegularEvent, IsRaised}
 use Rattle.ring_log_proof.proofs.RunEpochs.{newest-dropping, event-dropping}
-use Rattle.ring_session.specs.Tickets.{TicketCall, unanswered}
+use Rattle.ring_session.specs.Tickets.{TicketCall, unanswered_tickets}
 use Rattle.ring_node_spec.specs.EpochHistories.{epochs_after}
-use Rattle.ring_node_spec.specs.Nodes.{Node, node_known_log, node_pending, snapshot_kept, runs}
+use Rattle.ring_node_spec.specs.Nodes.{Node, node_known_log, node_pending, snapshot_kept, is_core_running_in}
 use Rattle.ring_node_spec.specs.DueSends.{due_at_regular, has_all_heads, parts_due, snaps_due, is_snapshot_kept, places_due, owner_due, due_when_heads_complete}
-use Rattle.ring_node_spec.specs.DueSends.{contains_call, calls_due, places_past, due_when_complete, owner_due_on_heads, due_between, due_in_epoch, due_at_agreed, due_by}
+use Rattle.ring_node_spec.specs.DueSends.{contains_call, calls_due, uncommitted_places, due_when_complete, owner_due_on_heads, due_between, due_in_epoch, due_at_agreed, due_of_outputs}
 use Rattle.ring_order_proof.specs.NodeFits.{HeardFits, EpochFits, EpochsFit, IsMarkedUpTo, TicketsFit}
 use Rattle.ring_order_proof.proofs.LogLimits.{ExchangeFits, stay_exchange, PlacesFit, WantedFits, wanted_fits, kept_fits, head_fits, parts_fit, pieces_fit}
 use Rattle.ring_order_proof.proofs.OutputLimits.{Tells}
@@ -244,11 +244,11 @@ stated_due_fit me bytes k old new h x =
     (λ t. owner_due_fit me bytes (retained_log k) (wanted new) (each-drop CallFits (k.trimmed - k.from) k.calls h) (wanted_fits new x)) (λ e. tt)
 
 calls_due_fit : {A : Type 0} → (tickets : List (TicketCall A)) (done calls : List (OneCall A)) → TicketsFit tickets →
-    Each PayloadFits (calls_due (unanswered done tickets) calls)
+    Each PayloadFits (calls_due (unanswered_tickets done tickets) calls)
 calls_due_fit {A} tickets done calls h =
-    let waiting = filter (λ (t : TicketCall A). not (contains_call calls t)) (unanswered done tickets) in
+    let waiting = filter (λ (t : TicketCall A). not (contains_call calls t)) (unanswered_tickets done tickets) in
     any_each PayloadFits (λ (t : TicketCall A). CallFits t.call) (λ (t : TicketCall A). Call t.call) waiting (λ t f. f)
-    (each-filter (λ (t : TicketCall A). CallFits t.call) (λ (t : TicketCall A). not (contains_call calls t)) (unanswered done tickets)
+    (each-filter (λ (t : TicketCall A). CallFits t.call) (λ (t : TicketCall A). not (contains_call calls t)) (unanswered_tickets done tickets)
     (each-filter (λ (t : TicketCall A). CallFits t.call) _ tickets h))
 
 module _ {O A : Type 0} (object : Sequential O) (n : Node A) (tickets : TicketsFit n.tickets) (core : Core A) where
@@ -256,7 +256,7 @@ module _ {O A : Type 0} (object : Sequential O) (n : Node A) (tickets : TicketsF
       Each PayloadFits (due_between object n before epochs old new)
   due_between_fit before epochs old new h x =
       let k = known_log_of n.group before in
-      let past = places_past (node_known_log n).committed (retained_log (known_log_of n.group epochs)) in
+      let past = uncommitted_places (node_known_log n).committed (retained_log (known_log_of n.group epochs)) in
       each-append PayloadFits (owner_due_on_heads object n k old new) (due_when_complete n epochs old new)
       (stated_due_fit n.core.me (snapshot_kept object k) k old new (kept_fits n.group before h).calls x)
       (cond_both (is_exchange_complete new && not (is_exchange_complete old)) (calls_due (node_pending n) past) [] (Each PayloadFits)
@@ -266,12 +266,12 @@ module _ {O A : Type 0} (object : Sequential O) (n : Node A) (tickets : TicketsF
       Each PayloadFits (due_at_agreed object n core ring epochs x after)
   agreed_due_fit q ring [] x after f h = tt
   agreed_due_fit q ring (s ∷ older) x after f h =
-      let old = after_all (exchange_opening s.members) s.heard in
-      let new = after_all (exchange_opening s.members) (s.heard ++ x ∷ []) in
+      let old = exchange_after_messages (exchange_opening s.members) s.heard in
+      let new = exchange_after_messages (exchange_opening s.members) (s.heard ++ x ∷ []) in
       let fits : ExchangeFits new =
       stay_exchange s.members s.ring.seq (s.heard ++ x ∷ [])
       (each-push (HeardFits s.ring.seq) s.heard x (h.0).heard (subst (λ q. HeardFits q x) (sym h.1) f)) in
-      cond_both (runs core ring) (due_in_epoch object n s (s ∷ older) x after) [] (Each PayloadFits)
+      cond_both (is_core_running_in core ring) (due_in_epoch object n s (s ∷ older) x after) [] (Each PayloadFits)
       (λ r. cond_both (is_primary n.group s.members) (due_between object n (s ∷ older) after old new) [] (Each PayloadFits)
       (λ p. due_between_fit (s ∷ older) after old new (h.0, h.2) fits) (λ p. tt)) (λ r. tt)
 
@@ -282,13 +282,13 @@ module _ {O A : Type 0} (object : Sequential O) (n : Node A) (tickets : TicketsF
       (λ e. (head_fits n.group epochs h sound drops, tt)) (λ e. tt)
 
   pub due_fit : (q low m high : ℕ) (epochs : List (Epoch A)) (outs : List (Out A)) → Tells q low m high outs → LivesFit n.group q low epochs →
-      is_known_log_sound n.group (epochs_after epochs outs) ≡ true → Each PayloadFits (due_by object n core epochs outs)
+      is_known_log_sound n.group (epochs_after epochs outs) ≡ true → Each PayloadFits (due_of_outputs object n core epochs outs)
   due_fit q low m high epochs [] t h sound = tt
   due_fit q low m high epochs (Agreed ring k x ∷ outs) t h sound =
-      each-append PayloadFits (due_at_agreed object n core ring epochs x (epochs_with_message x epochs)) (due_by object n core (epochs_with_message x epochs) outs)
+      each-append PayloadFits (due_at_agreed object n core ring epochs x (epochs_with_message x epochs)) (due_of_outputs object n core (epochs_with_message x epochs) outs)
       (agreed_due_fit q ring epochs x (epochs_with_message x epochs) t.0 h.stays) (due_fit q low m high (epochs_with_message x epochs) outs t.1 (hears_on n.group q low x epochs t.0 h) sound)
   due_fit q low m high epochs (Regular ring set ∷ outs) t h sound =
-      each-append PayloadFits (due_at_regular n.group set epochs) (due_by object n core (epoch_opening ring set ∷ epochs) outs)
+      each-append PayloadFits (due_at_regular n.group set epochs) (due_of_outputs object n core (epoch_opening ring set ∷ epochs) outs)
       (regular_due_fit set epochs (all_stays q epochs h.stays) (sound_before n.group ring set epochs outs sound) h.drops)
       (due_fit ring.seq 0 m high (epoch_opening ring set ∷ epochs) outs t.1 (enters_on n.group q low ring set epochs t.0 h) sound)
   due_fit q low m high epochs (Safe ring upto ∷ outs) t h sound =

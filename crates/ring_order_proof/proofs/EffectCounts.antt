@@ -27,7 +27,7 @@ use Rattle.ring_log.specs.EpochHistories.{log_of, committed_of}
 use Rattle.ring_log_proof.proofs.Moment.{view-at, committed-front}
 use Rattle.ring_session.specs.Deduplicated.{deduplicated}
 use Rattle.ring_session.specs.SessionAnswer.{is_done}
-use Rattle.ring_session.specs.Table.{LastCall, Table, opening, last_number, last_call, session_of, has_room, is_taken}
+use Rattle.ring_session.specs.Table.{LastCall, Table, opening, last_number, last_call, session_of, has_room_for_client, takes_effect_in_table}
 use Rattle.ring_session.specs.Table.{table_of, table_answer, table_next, table_after}
 use Rattle.ring_session.specs.TicketEffects.{done_after, numbers_in, table_effects}
 use Rattle.ring_session.proofs.TableLaws.{table_holds, done-taken}
@@ -35,8 +35,8 @@ use Rattle.ring_session.proofs.TicketEffects.{length-deduplicated, deduplicated_
 use Rattle.ring_node_spec.specs.Nodes.{Node, node_known_log, effects_at}
 use Rattle.ring_node_spec.specs.declared.event.Event.{Event}
 use Rattle.ring_node_spec.specs.Worlds.{World, world_opening, run, whole_epochs_in}
-use Rattle.ring_order_proof.specs.Counts.{CountsPlaces}
-use Rattle.ring_order_proof.specs.Linear.{EventKeeps}
+use Rattle.ring_order_proof.specs.Counts.{CountsCommittedPlaces}
+use Rattle.ring_order_proof.specs.Linear.{IsEventCallWithinLimits}
 use Rattle.ring_order_proof.proofs.IssuedInWorlds.{WorldKnows, opening-knows, run-knows}
 use Rattle.ring_order_proof.proofs.KnownByNodes.{kept-node_epochs}
 use Rattle.ring_order_proof.proofs.KnownWhole.{Knows, before-known}
@@ -71,7 +71,7 @@ module _ {O A : Type 0} (object : Sequential O) where
   numbers-next : (table : Table O) (c : OneCall A) → IsStrictlySortedBy nat_cmp (keys_of table.sessions)
       → numbers_in (table_next object table c).sessions ≡ numbers_in table.sessions + (if is_done (table_answer object table c) then 1 else 0)
   numbers-next table c sorted =
-      by (is_taken table c) refl ∙ ap (λ b. numbers_in table.sessions + (if b then 1 else 0)) (sym (done-taken object table c))
+      by (takes_effect_in_table table c) refl ∙ ap (λ b. numbers_in table.sessions + (if b then 1 else 0)) (sym (done-taken object table c))
     where
       w : LastCall
       w = last_call c (object.reply table.content c.op)
@@ -79,11 +79,11 @@ module _ {O A : Type 0} (object : Sequential O) where
       put : Table O
       put = table_of (insert_entry nat_cmp table.sessions c.client w) (object.next table.content c.op)
 
-      by : (b : Bool) → is_taken table c ≡ b → numbers_in (if b then put else table).sessions ≡ numbers_in table.sessions + (if b then 1 else 0)
+      by : (b : Bool) → takes_effect_in_table table c ≡ b → numbers_in (if b then put else table).sessions ≡ numbers_in table.sessions + (if b then 1 else 0)
       by false not = omega arith
       by true taken =
           let next = eqb-true c.number (last_number (session_of table c.client) + 1)
-          (and_parts (c.number == last_number (session_of table c.client) + 1) (has_room table c.client) taken).0 in
+          (and_parts (c.number == last_number (session_of table c.client) + 1) (has_room_for_client table c.client) taken).0 in
           let sum = numbers-put table.sessions c.client w sorted in
           omega (arith, next, sum)
 
@@ -138,7 +138,7 @@ module _ {O A : Type 0} (object : Sequential O) (group : Group) (few : group.cou
   at events = run object (world_opening group) events
 
   -- the dropped and the kept places are all that a node has committed
-  pub places : (events : List (Event A)) (node : ℕ) → 1 ≤ node → node ≤ group.count → CountsPlaces ((at events).nodes node)
+  pub places : (events : List (Event A)) (node : ℕ) → 1 ≤ node → node ≤ group.count → CountsCommittedPlaces ((at events).nodes node)
   places events node low high =
       let w = at events in
       let o = orderly object group few events in
@@ -151,7 +151,7 @@ module _ {O A : Type 0} (object : Sequential O) (group : Group) (few : group.cou
       view.low view.high within (all-undropping object group events node).short
     where
       by : (n : Node A) (k : KnownLog A) (log whole : List (OneCall A)) → k ≡ node_known_log n → k.calls ≡ drop k.from log → k.committed ≡ length whole
-          → k.from ≤ k.trimmed → k.trimmed ≤ k.committed → length whole ≤ length log → known_log_length (node_known_log n) ≤ max_number → CountsPlaces n
+          → k.from ≤ k.trimmed → k.trimmed ≤ k.committed → length whole ≤ length log → known_log_length (node_known_log n) ≤ max_number → CountsCommittedPlaces n
       by n k log whole own calls committed low high within short =
           let many : length k.calls ≡ length log - k.from = ap length calls ∙ length-drop k.from log in
           let c = ap (λ (x : KnownLog A). x.committed) own in
@@ -167,7 +167,7 @@ module _ {O A : Type 0} (object : Sequential O) (group : Group) (few : group.cou
           }
 
   -- the number of calls that take effect in it is what its sessions give
-  pub effects : ComesBack object A → (events : List (Event A)) (node : ℕ) → Each EventKeeps events → 1 ≤ node → node ≤ group.count
+  pub effects : ComesBack object A → (events : List (Event A)) (node : ℕ) → Each IsEventCallWithinLimits events → 1 ≤ node → node ≤ group.count
       → effects_at object (node_known_log ((at events).nodes node)) (node_known_log ((at events).nodes node)).committed
       ≡ length (deduplicated (committed_of group (whole_epochs_in (at events) node)))
   effects back events node keeps low high =

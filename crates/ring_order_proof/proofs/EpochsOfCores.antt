@@ -7,11 +7,11 @@ use Rattle.ring_core_spec.specs.declared.out.Out.{Out}
 use Rattle.ring_core_spec.specs.declared.out.Out.TheVariants.{Send as SendOut, Agreed, Safe, Trans, Rest, Regular}
 use Rattle.ring_core_spec.specs.State.{Core}
 use Rattle.ring_core_spec.specs.Views.{front, mark}
-use Rattle.ring_core_spec.specs.Giving.{users}
+use Rattle.ring_core_spec.specs.Giving.{user_messages_between}
 use Rattle.ring_core_proof.specs.FactWords.{IsIn}
 use Rattle.ring_core_proof.specs.Worlds.{World as RingWorld}
-use Rattle.ring_core_proof.specs.EpochHistories.{Stage, InRegular, InTransitional, Life, life_after_output, life_after, is_output_in_stage, are_outputs_in_stages, outs_of, life_opening}
-use Rattle.ring_core_proof.specs.EpochHistories.{life_of, has_ordered_outputs}
+use Rattle.ring_core_proof.specs.Lives.{Stage, InRegular, InTransitional, Life, life_after_output, life_after, is_output_in_stage, are_outputs_in_stages, outs_of, life_opening}
+use Rattle.ring_core_proof.specs.Lives.{life_of, has_ordered_outputs}
 use Rattle.ring_synchrony_proof.specs.LifeOfCore.{core_life, regular_stage, earlier_stages}
 use Rattle.ring_synchrony_proof.proofs.Ordered.{Ordered}
 use Rattle.ring_synchrony_proof.proofs.LifeAfterStep.{tale_is}
@@ -28,7 +28,7 @@ abbrev pub stay_told : {A : Type 0} → Core A → Configuration → Epoch A
 stay_told c at = record {
   ring = at.ring;
   members = at.members;
-  heard = users c at.ring 0 (front c at.ring);
+  heard = user_messages_between c at.ring 0 (front c at.ring);
   mark = mark c at.ring;
   sent = [];
   trimmed = 0;

@@ -20,7 +20,7 @@ use Rattle.ring_log.specs.declared.wanted.Wanted.{Wanted}
 use Rattle.ring_log.specs.Exchanges.{Exchange, exchange_opening, wanted, hear_head, has_wanted_snapshot, is_piece_of}
 use Rattle.ring_log.specs.Exchanges.{is_next_piece, hear_snap, is_wanted, hear_part, heard}
 use Rattle.ring_log.specs.Exchanges.{has_all_wanted, is_exchange_complete}
-use Rattle.ring_log.specs.EpochHistories.{exchange_after_message, after_all}
+use Rattle.ring_log.specs.EpochHistories.{exchange_after_message, exchange_after_messages}
 use Rattle.ring_log.proofs.WholeExchanges.{wants_nothing}
 
 -- a piece has these bytes at its offset, and states their total
@@ -153,7 +153,7 @@ module _ {A : Type 0} (bytes : ℕ → List ℕ) where
   epochs_with_message-payload e p End honest k = k
 
   pub epochs_with_message-all : (e : Exchange A) (xs : List (Message A)) → Each (λ (x : Message A). IsHonestPiece x.sender x.payload) xs → HearsPieces e
-      → HearsPieces (after_all e xs)
+      → HearsPieces (exchange_after_messages e xs)
   epochs_with_message-all e [] honest k = k
   epochs_with_message-all e (x ∷ xs) honest k = epochs_with_message-all (exchange_after_message e x) xs honest.1 (epochs_with_message-payload e x.sender x.payload honest.0 k)
 

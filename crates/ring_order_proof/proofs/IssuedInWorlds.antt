@@ -13,23 +13,23 @@ use Rattle.ring_core_spec.specs.declared.input.Input.TheVariants.{Frame as CoreF
 use Rattle.ring_core_spec.specs.declared.out.Out.{Out}
 use Rattle.ring_log.specs.KnownLog.{KnownLog, known_log_of, retained_log, is_known_log_sound}
 use Rattle.ring_log.specs.Logs.{committed_calls}
-use Rattle.ring_log.specs.Epochs.{Epoch, epochs_opening}
+use Rattle.ring_log.specs.Epochs.{Epoch, history_opening_of}
 use Rattle.ring_node_spec.specs.EpochHistories.{epochs_after}
 use Rattle.ring_node_spec.specs.Nodes.{Node, node_known_log, node_stopped, is_closed, is_restored}
-use Rattle.ring_node_spec.specs.DueSends.{due_by}
+use Rattle.ring_node_spec.specs.DueSends.{due_of_outputs}
 use Rattle.ring_node_spec.specs.declared.input.Input.{Input}
 use Rattle.ring_node_spec.specs.declared.input.Input.TheVariants.{Frame as FrameInput, Noise as NoiseInput, Timeout as TimeInput, Stop as StopInput}
-use Rattle.ring_node_spec.specs.Stepping.{NodeStepResult, node_after_outputs, with_dropped, newly_committed, drops, did, settled, after_core, node_step, submit_fault, submitted}
+use Rattle.ring_node_spec.specs.Stepping.{NodeStepResult, node_after_outputs, with_dropped, newly_committed, drops, did, settled, after_core, node_step, submit_fault, node_after_submit}
 use Rattle.ring_node_spec.specs.declared.event.Event.{Event}
 use Rattle.ring_node_spec.specs.declared.event.Event.TheVariants.{Issue, Deliver, Noise, Timeout, Stop}
 use Rattle.ring_node_spec.specs.declared.item.Item.{Item}
 use Rattle.ring_node_spec.specs.declared.item.Item.TheVariants.{Issue as IssuedItem}
-use Rattle.ring_node_spec.specs.declared.told.Told.{Told}
+use Rattle.ring_node_spec.specs.declared.client_report.Told.{Told}
 use Rattle.ring_node_spec.specs.Histories.{IsIssuedAt}
-use Rattle.ring_node_spec.specs.Worlds.{World, world_opening, put, is_node, items_of, after_step, issued_or, issued_if}
-use Rattle.ring_node_spec.specs.Worlds.{stopped_if, stepped_if, handed_if, handed, happens, run}
+use Rattle.ring_node_spec.specs.Worlds.{World, world_opening, with_node, is_node, reply_items_of, after_step, world_after_submit, world_after_submit_if_member}
+use Rattle.ring_node_spec.specs.Worlds.{world_after_stop_if_member, world_after_input_if_member, world_after_receipt_if_sent, world_after_delivery, world_after_event, run}
 use Rattle.ring_log_proof.specs.RingFacts.{HasEpoch}
-use Rattle.ring_log_proof.specs.Time.{IsKnownCall}
+use Rattle.ring_log_proof.specs.EpochEvents.{IsKnownCall}
 use Rattle.std.specs.List.{AllByRecursion as Each}
 use Rattle.ring_order_proof.proofs.SentTickets.{NodeKnows, step-known, submitted-known, stopped-known, knows-more}
 
@@ -61,7 +61,7 @@ module _ {O A : Type 0} (object : Sequential O) where
   core-group n s =
       let epochs = epochs_after n.epochs s.outs in
       settled-group (is_known_log_sound n.group epochs && is_restored object (known_log_of n.group epochs)) n
-      (node_after_outputs n s.core epochs (due_by object n s.core n.epochs s.outs)) s.outs
+      (node_after_outputs n s.core epochs (due_of_outputs object n s.core n.epochs s.outs)) s.outs
       (known_log_of n.group epochs) refl
 
   step-group : (n : Node A) (input : Input A) → (node_step object n input).node.group ≡ n.group
@@ -75,7 +75,7 @@ module _ {O A : Type 0} (object : Sequential O) where
       (longest : List (Call A))
       → WorldKnows group w
       → ((c : Call A) → IssuedIn w.history c → IssuedIn history c) → n.group ≡ group → NodeKnows (IssuedIn history) n
-      → WorldKnows group (record { group = w.group; nodes = put w.nodes i n; frames = frames; history = history; told = told; longest = longest })
+      → WorldKnows group (record { group = w.group; nodes = with_node w.nodes i n; frames = frames; history = history; told = told; longest = longest })
   put-knows group w i n frames history told longest k more e h = record {
     here = k.here;
     groups = λ j. cond_both (j == i) n (w.nodes j) (λ (m : Node A). m.group ≡ group) (λ t. e) (λ f. k.groups j);
@@ -83,36 +83,36 @@ module _ {O A : Type 0} (object : Sequential O) where
         (λ f. knows-more (IssuedIn w.history) (IssuedIn history) more (w.nodes j) (k.knows j));
   }
 
-  stepped-knows : (group : Group) (w : World A) (b : Bool) (i : ℕ) (input : Input A) → WorldKnows group w → WorldKnows group (stepped_if object b w i input)
+  stepped-knows : (group : Group) (w : World A) (b : Bool) (i : ℕ) (input : Input A) → WorldKnows group w → WorldKnows group (world_after_input_if_member object b w i input)
   stepped-knows group w false i input k = k
   stepped-knows group w true i input k =
       let s = node_step object (w.nodes i) input in
       let w' = after_step w i s in
       let known = step-known (IssuedIn w.history) object (w.nodes i) input (k.knows i) in
-      put-knows group w i s.node w'.frames w'.history w'.told w'.longest k (issued-more w.history (items_of s.answers))
+      put-knows group w i s.node w'.frames w'.history w'.told w'.longest k (issued-more w.history (reply_items_of s.answers))
       (step-group (w.nodes i) input ∙ k.groups i)
-      (knows-more (IssuedIn w.history) (IssuedIn (w.history ++ items_of s.answers)) (issued-more w.history (items_of s.answers)) s.node known)
+      (knows-more (IssuedIn w.history) (IssuedIn (w.history ++ reply_items_of s.answers)) (issued-more w.history (reply_items_of s.answers)) s.node known)
 
-  issued-knows : (group : Group) (w : World A) (o : Option Fault) (i : ℕ) (c : Call A) → WorldKnows group w → WorldKnows group (issued_or o w i c)
+  issued-knows : (group : Group) (w : World A) (o : Option Fault) (i : ℕ) (c : Call A) → WorldKnows group w → WorldKnows group (world_after_submit o w i c)
   issued-knows group w (Some fault) i c k = record { here = k.here; groups = k.groups; knows = k.knows }
   issued-knows group w None i c k =
       let more = issued-more w.history (IssuedItem c ∷ []) in
       let now = w.history ++ IssuedItem c ∷ [] in
-      put-knows group w i (submitted (w.nodes i) c) w.frames now w.told w.longest k more (k.groups i)
+      put-knows group w i (node_after_submit (w.nodes i) c) w.frames now w.told w.longest k more (k.groups i)
       (submitted-known (IssuedIn now) (w.nodes i) c (issued-last w.history c) (knows-more (IssuedIn w.history) (IssuedIn now) more (w.nodes i) (k.knows i)))
 
-  frame-knows : (group : Group) (w : World A) (o : Option (Transmission A)) (i : ℕ) → WorldKnows group w → WorldKnows group (handed object w i o)
+  frame-knows : (group : Group) (w : World A) (o : Option (Transmission A)) (i : ℕ) → WorldKnows group w → WorldKnows group (world_after_delivery object w i o)
   frame-knows group w None i k = k
   frame-knows group w (Some f) i k = go (has f.to i)
     where
-      go : (b : Bool) → WorldKnows group (handed_if object b w i f.frame)
+      go : (b : Bool) → WorldKnows group (world_after_receipt_if_sent object b w i f.frame)
       go false = k
       go true = stepped-knows group w (is_node w i) i (FrameInput f.frame) k
 
-  pub event-knows : (group : Group) (w : World A) (e : Event A) → WorldKnows group w → WorldKnows group (happens object w e)
+  pub event-knows : (group : Group) (w : World A) (e : Event A) → WorldKnows group w → WorldKnows group (world_after_event object w e)
   event-knows group w (Issue i c) k = go (is_node w i)
     where
-      go : (b : Bool) → WorldKnows group (issued_if b w i c)
+      go : (b : Bool) → WorldKnows group (world_after_submit_if_member b w i c)
       go false = k
       go true = issued-knows group w (submit_fault (w.nodes i)) i c k
   event-knows group w (Deliver i n) k = frame-knows group w (frame_at w.frames n) i k
@@ -120,18 +120,18 @@ module _ {O A : Type 0} (object : Sequential O) where
   event-knows group w (Timeout i kind) k = stepped-knows group w (is_node w i) i (TimeInput kind) k
   event-knows group w (Stop i) k = go (is_node w i)
     where
-      go : (b : Bool) → WorldKnows group (stopped_if b w i)
+      go : (b : Bool) → WorldKnows group (world_after_stop_if_member b w i)
       go false = k
       go true = put-knows group w i (node_stopped (w.nodes i)) w.frames w.history w.told w.longest k (λ c h. h) (k.groups i)
           (stopped-known (IssuedIn w.history) (w.nodes i) (k.knows i))
 
   pub run-knows : (group : Group) (w : World A) (events : List (Event A)) → WorldKnows group w → WorldKnows group (run object w events)
   run-knows group w [] k = k
-  run-knows group w (e ∷ events) k = run-knows group (happens object w e) events (event-knows group w e k)
+  run-knows group w (e ∷ events) k = run-knows group (world_after_event object w e) events (event-knows group w e k)
 
 pub opening-knows : {A : Type 0} (group : Group) → WorldKnows {A = A} group (world_opening group)
 opening-knows {A} group = record { here = refl; groups = λ i. refl; knows = λ i. record { tickets = tt; sent = λ s older h. silent i s older h } }
   where
-    silent : (i : ℕ) (s : Epoch A) (older : List (Epoch A)) → HasEpoch (epochs_opening i) s older → Each (IsKnownCall (IssuedIn {A = A} [])) s.sent
+    silent : (i : ℕ) (s : Epoch A) (older : List (Epoch A)) → HasEpoch (history_opening_of i) s older → Each (IsKnownCall (IssuedIn {A = A} [])) s.sent
     silent i s older (inl e) = subst (λ (t : Epoch A). Each (IsKnownCall (IssuedIn {A = A} [])) t.sent) e.0 tt
     silent i s older (inr e) = absurd e

@@ -9,9 +9,9 @@ use Rattle.ring_payload.specs.declared.call.Call.{Call}
 use Rattle.ring_payload.specs.declared.content.Payload.{Payload}
 use Rattle.ring_log.specs.KnownLog.{KnownLog, known_log_of}
 use Rattle.ring_log.specs.EpochHistories.{log_of, committed_of, fronts_below}
-use Rattle.ring_log.specs.Epochs.{Epoch, above}
+use Rattle.ring_log.specs.Epochs.{Epoch, number_above_rings}
 use Rattle.ring_log_proof.specs.RingFacts.{HasEpoch}
-use Rattle.ring_log_proof.specs.Time.{IsKnownCall, SendsOnlyKnown}
+use Rattle.ring_log_proof.specs.EpochEvents.{IsKnownCall, SendsOnlyKnown}
 use Rattle.ring_log_proof.proofs.Prefixes.{filled-epoch}
 use Rattle.ring_log_proof.proofs.FilledEpochs.{kept-filled}
 use Rattle.ring_log_proof.proofs.Moment.{committed-front, view-at}
@@ -44,7 +44,7 @@ module _ {A : Type 0} (group : Group) (w : World A) (here : w.group ≡ group) w
 
   pub own-epoch : (p : ℕ) (s : Epoch A) (older : List (Epoch A)) → HasEpoch (whole_epochs_in w p) s older → OwnStay p s older
   own-epoch p s older there =
-      let fronts = fronts_below w.group (epochs_in w) (above (epochs_in w p)) in
+      let fronts = fronts_below w.group (epochs_in w) (number_above_rings (epochs_in w p)) in
       let f = filled-epoch fronts p (epochs_in w p) s older there in
       record {
         before = f.older;
@@ -58,7 +58,7 @@ module _ {A : Type 0} (group : Group) (w : World A) (here : w.group ≡ group) w
   -- the known log of a node, filled or not
   pub kept-node_epochs : (i : ℕ) → 1 ≤ i → i ≤ group.count → (w.nodes i).group ≡ group → known_log_of group (whole_epochs_in w i) ≡ node_known_log (w.nodes i)
   kept-node_epochs i low high same =
-      kept-filled (fronts_below w.group (epochs_in w) (above (epochs_in w i))) i group (epochs_in w i)
+      kept-filled (fronts_below w.group (epochs_in w) (number_above_rings (epochs_in w i))) i group (epochs_in w i)
       ∙ ap (known_log_of group) (cond-true (is_node w i) (w.nodes i).epochs [] (a-node i low high)) ∙ ap (λ g. known_log_of g (w.nodes i).epochs) (sym same)
 
   -- a property of all calls that nodes handed over

@@ -12,7 +12,7 @@ use Rattle.ring_log.specs.KnownLog.{KnownLog, retained_log}
 use Rattle.ring_log.specs.Logs.{committed_calls}
 use Rattle.ring_session.specs.Snapshots.{table_snapshot}
 use Rattle.ring_session.specs.Table.{table_after}
-use Rattle.ring_node_spec.specs.Nodes.{table_before, table_at, snapshot_kept, is_restored}
+use Rattle.ring_node_spec.specs.Nodes.{table_before, table_after_places, snapshot_kept, is_restored}
 use Rattle.ring_node_spec.specs.Stepping.{newly_committed, table_since}
 use Rattle.ring_order_proof.proofs.RestoredTables.{Told, before-told, is-restored, at-told, snapshot-told}
 
@@ -61,7 +61,7 @@ module _ {O A : Type 0} (object : Sequential O) (k : KnownLog A) (log whole : Li
   first-same n le = take-front whole log n knows.within (omega (arith, le, knows.committed))
 
   -- the table after committed places
-  pub table-known : (n : ℕ) → k.from ≤ n → n ≤ k.committed → table_at object k n ≡ table_after object (take n whole)
+  pub table-known : (n : ℕ) → k.from ≤ n → n ≤ k.committed → table_after_places object k n ≡ table_after object (take n whole)
   table-known n low le = at-told object k log knows.told knows.calls n low ∙ ap (table_after object) (first-same n le)
 
   pub before-known : table_before object k ≡ table_after object (take k.from whole)
@@ -100,7 +100,7 @@ module _ {O A : Type 0} (object : Sequential O) (old k : KnownLog A) (log whole 
 
   pub since-known : table_since object old k ≡ table_after object (take done_before whole')
   since-known =
-      cond_both (nat_lt old.trimmed k.trimmed) (table_before object k) (table_at object old old.committed)
+      cond_both (nat_lt old.trimmed k.trimmed) (table_before object k) (table_after_places object old old.committed)
       (λ t. t ≡ table_after object (take done_before whole'))
       (λ t.
       let r = drops (ltb-true old.trimmed k.trimmed t) in

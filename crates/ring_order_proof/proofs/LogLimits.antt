@@ -13,7 +13,7 @@ use Rattle.ring_base.proofs.Each.{each-weaker, each-append, each-push, each-map,
 use Rattle.ring_wire.specs.Rings.{RingFits, SomeRingFits}
 use Rattle.ring_payload.specs.Calls.{CallFits}
 use Rattle.ring_payload.specs.Heads.{HeadFits}
-use Rattle.ring_payload.specs.Kinds.{calls_of}
+use Rattle.ring_payload.specs.PayloadKinds.{calls_of}
 use Rattle.ring_payload.specs.Limits.{max_snapshot}
 use Rattle.ring_payload.specs.Parts.{PartFits}
 use Rattle.ring_payload.specs.Payloads.{PayloadFits}
@@ -25,11 +25,11 @@ use Rattle.ring_payload.specs.declared.content.Payload.TheVariants.{Call, Wrappe
 use Rattle.ring_wire.specs.declared.message.Message.{Message}
 use Rattle.ring_log.specs.declared.received_head.ReceivedHead.{ReceivedHead}
 use Rattle.ring_log.specs.declared.wanted.Wanted.{Wanted}
-use Rattle.ring_log.specs.Exchanges.{Exchange, exchange_opening, wanted_of, wanted_by, wanted, is_next_piece, is_wanted, heard}
+use Rattle.ring_log.specs.Exchanges.{Exchange, exchange_opening, wanted_from_owner, wanted_from_heads, wanted, is_next_piece, is_wanted, heard}
 use Rattle.ring_log.specs.Heads.{chosen_head, least_committed}
 use Rattle.ring_log.specs.KnownLog.{KnownLog, IsKnownLog, known_log_length, restores, known_log_restored, first_joined, known_log_joined, known_log_adopted, adopts_wanted, adopts}
-use Rattle.ring_log.specs.KnownLog.{followed_by, kept_by, dropped_by, known_log_of, known_log_head, keeps_kept, is_known_log_sound}
-use Rattle.ring_log.specs.EpochHistories.{CompleteExchange, complete_exchange_from, after_all, complete_exchange, calls_in, upto}
+use Rattle.ring_log.specs.KnownLog.{followed_by, known_log_after_epoch, dropped_by, known_log_of, known_log_head, keeps_kept, is_known_log_sound}
+use Rattle.ring_log.specs.EpochHistories.{CompleteExchange, complete_exchange_from, exchange_after_messages, complete_exchange, calls_in, messages_upto}
 use Rattle.ring_log.specs.Logs.{is_log_length}
 use Rattle.ring_log.specs.Parts.{nth_part, parts_between, nth_piece, pieces_of}
 use Rattle.ring_log.specs.Epochs.{Epoch}
@@ -73,11 +73,11 @@ heard_fits e sender (Snap snap) h f =
     (λ t. f)
 
 after_fits : {A : Type 0} → (e : Exchange A) (xs : List (Message A)) → Each (λ (x : Message A). PayloadFits x.payload) xs → ExchangeFits e →
-    ExchangeFits (after_all e xs)
+    ExchangeFits (exchange_after_messages e xs)
 after_fits e [] h f = f
 after_fits e (x ∷ xs) h f = after_fits (heard e x.sender x.payload) xs h.1 (heard_fits e x.sender x.payload h.0 f)
 
-pub stay_exchange : {A : Type 0} → (m n : ℕ) (xs : List (Message A)) → Each (HeardFits n) xs → ExchangeFits (after_all (exchange_opening m) xs)
+pub stay_exchange : {A : Type 0} → (m n : ℕ) (xs : List (Message A)) → Each (HeardFits n) xs → ExchangeFits (exchange_after_messages (exchange_opening m) xs)
 stay_exchange m n xs h = after_fits (exchange_opening m) xs (heard_payloads n xs h) (record { heads = tt; received_calls = tt })
 
 -- the wanted places end where the owner's Head says; a wanted snapshot stands for at least one place, as its Head says too
@@ -89,21 +89,21 @@ abbrev pub WantedFits : Option Wanted → Type 0
 WantedFits None = Unit {0}
 WantedFits (Some w) = (w.to ≤ max_number) × PlacesFit w.snapshot
 
-wanted_of_fits : (owner least : ℕ) (h : OneHead) → HeadFits h → WantedFits (Some (wanted_of owner h least))
+wanted_of_fits : (owner least : ℕ) (h : OneHead) → HeadFits h → WantedFits (Some (wanted_from_owner owner h least))
 wanted_of_fits owner least h f =
     cond_both (nat_lt least h.trimmed) (record { owner = owner; snapshot = Some h.trimmed; from = h.trimmed; to = h.length })
     (record { owner = owner; snapshot = None; from = least; to = h.length }) (λ (w : Wanted). WantedFits (Some w))
     (λ t. (f.length, (let some = ltb-true least h.trimmed t in omega (arith, some), omega (arith, f.trimmed, f.committed, f.length))))
     (λ t. (f.length, tt))
 
-wanted_by_fits : (heads : List ReceivedHead) → Each (λ (s : ReceivedHead). HeadFits s.head) heads → WantedFits (wanted_by heads)
+wanted_by_fits : (heads : List ReceivedHead) → Each (λ (s : ReceivedHead). HeadFits s.head) heads → WantedFits (wanted_from_heads heads)
 wanted_by_fits [] h = tt
 wanted_by_fits (s ∷ rest) h =
     let chosen = chosen_head s rest in
     wanted_of_fits chosen.sender (least_committed s.head.committed rest) chosen.head (chosen-is (λ (s : ReceivedHead). HeadFits s.head) s rest h.0 h.1)
 
 pub wanted_fits : {A : Type 0} → (e : Exchange A) → ExchangeFits e → WantedFits (wanted e)
-wanted_fits e f = cond_both (e.missing_heads == nobody) (wanted_by e.heads) None WantedFits (λ t. wanted_by_fits e.heads f.heads) (λ t. tt)
+wanted_fits e f = cond_both (e.missing_heads == nobody) (wanted_from_heads e.heads) None WantedFits (λ t. wanted_by_fits e.heads f.heads) (λ t. tt)
 
 -- Calls
 
@@ -153,7 +153,7 @@ whole_counted {A} group m n [] w h e =
 
 -- after an epoch, given its exchange, if complete, and the calls received after it
 kept_by_fits : {A : Type 0} → (group : Group) (m : ℕ) (ring : RingId) (xs : List (Message A)) (k : KnownLog A) (places : ℕ) → RingFits ring →
-    Each (HeardFits ring.seq) xs → KeptFits k → (o safe : Option (CompleteExchange A)) → complete_exchange group m xs ≡ o → KeptFits (dropped_by places (kept_by ring k o safe))
+    Each (HeardFits ring.seq) xs → KeptFits k → (o safe : Option (CompleteExchange A)) → complete_exchange group m xs ≡ o → KeptFits (dropped_by places (known_log_after_epoch ring k o safe))
 kept_by_fits group m ring xs k places r h f None safe e = record { calls = f.calls; last = f.last; empty = f.empty }
 kept_by_fits {A} group m ring xs k places r h f (Some w) safe e =
     let b = complete_exchange-whole group m xs w e in
@@ -174,7 +174,7 @@ pub kept_fits : {A : Type 0} → (group : Group) (epochs : List (Epoch A)) → E
 kept_fits group [] h = record { calls = tt; last = tt; empty = λ e. refl }
 kept_fits group (s ∷ older) h =
     kept_by_fits group s.members s.ring s.heard (known_log_of group older) s.trimmed h.0.ring h.0.heard (kept_fits group older h.1)
-    (complete_exchange group s.members s.heard) (complete_exchange group s.members (upto s.mark s.heard)) refl
+    (complete_exchange group s.members s.heard) (complete_exchange group s.members (messages_upto s.mark s.heard)) refl
 
 -- The Head of a life
 

@@ -7,11 +7,11 @@ use Rattle.ring_object.specs.Operations.{Sequential}
 use Rattle.ring_payload.specs.declared.call.Call.{Call}
 use Rattle.ring_wire.specs.declared.message.Message.{Message}
 use Rattle.ring_core_spec.specs.State.{Core}
-use Rattle.ring_core_spec.specs.Giving.{users}
+use Rattle.ring_core_spec.specs.Giving.{user_messages_between}
 use Rattle.ring_core_spec.specs.Views.{front, mark}
 use Rattle.ring_core_proof.proofs.WithinWindow.{mark_below}
-use Rattle.ring_log.specs.Epochs.{Epoch, above}
-use Rattle.ring_log.specs.EpochHistories.{CompleteExchange, upto, complete_exchange, log_of, committed_of, older_at, ring_log, fronts_below}
+use Rattle.ring_log.specs.Epochs.{Epoch, number_above_rings}
+use Rattle.ring_log.specs.EpochHistories.{CompleteExchange, messages_upto, complete_exchange, log_of, committed_of, older_at, ring_log, fronts_below}
 use Rattle.ring_log_proof.specs.Discipline.{KeepsRules}
 use Rattle.ring_log_proof.specs.RingFacts.{HasEpoch, Rises, safe_part}
 use Rattle.ring_log_proof.proofs.Prefixes.{fill, filled-epoch}
@@ -65,7 +65,7 @@ module _ {O A : Type 0} (object : Sequential O) (group : Group) (events : List (
 
   own-epoch : (s : Epoch A) (older : List (Epoch A)) → HasEpoch epochs s older → IsOwn s
   own-epoch s older there =
-      let fronts = fronts_below w.group (epochs_in w) (above (epochs_in w i)) in
+      let fronts = fronts_below w.group (epochs_in w) (number_above_rings (epochs_in w i)) in
       let f = filled-epoch fronts i (epochs_in w i) s older there in
       let here : epochs_in w i ≡ (w.nodes i).epochs = cond-true (is_node w i) (w.nodes i).epochs [] (node_is object group events i low high) in
       let own = subst (λ (l : List (Epoch A)). HasEpoch l f.epoch f.older) here f.there in
@@ -78,44 +78,44 @@ module _ {O A : Type 0} (object : Sequential O) (group : Group) (events : List (
       }
 
   -- all that the node has of the ring's text, up to its front
-  heard-to-front : (s : Epoch A) (older : List (Epoch A)) → HasEpoch epochs s older → s.heard ≡ users core s.ring 0 (front core s.ring)
+  heard-to-front : (s : Epoch A) (older : List (Epoch A)) → HasEpoch epochs s older → s.heard ≡ user_messages_between core s.ring 0 (front core s.ring)
   heard-to-front s older there =
       let o = own-epoch s older there in
       let t = o.told in
       o.heard ∙ ap (λ (u : Epoch A). u.heard) t.is
-      ∙ ap (λ (r : RingId). users core r 0 (front core r)) (sym (o.ring ∙ ap (λ (u : Epoch A). u.ring) t.is))
+      ∙ ap (λ (r : RingId). user_messages_between core r 0 (front core r)) (sym (o.ring ∙ ap (λ (u : Epoch A). u.ring) t.is))
 
   -- the part of that up to its safe mark
-  safe-to-mark : (s : Epoch A) (older : List (Epoch A)) → HasEpoch epochs s older → safe_part s ≡ users core s.ring 0 (mark core s.ring)
+  safe-to-mark : (s : Epoch A) (older : List (Epoch A)) → HasEpoch epochs s older → safe_part s ≡ user_messages_between core s.ring 0 (mark core s.ring)
   safe-to-mark s older there =
       let o = own-epoch s older there in
       let t = o.told in
       let ring = (t.at).ring in
       let part = ring_part w nodes.ring.outs in
       let within : mark core ring ≤ front core ring = mark_below core ring (nodes.cores.recovered.local i).fit in
-      ap (λ m. upto m s.heard) o.mark ∙ ap (upto o.epoch.mark) o.heard
-      ∙ ap (λ (u : Epoch A). upto u.mark u.heard) t.is
+      ap (λ m. messages_upto m s.heard) o.mark ∙ ap (messages_upto o.epoch.mark) o.heard
+      ∙ ap (λ (u : Epoch A). messages_upto u.mark u.heard) t.is
       ∙ safe_is part nodes.cores i ring
       ∙ sym (heard_is part nodes.cores.recovered i ring (mark core ring) within)
-      ∙ ap (λ (r : RingId). users core r 0 (mark core r)) (sym (o.ring ∙ ap (λ (u : Epoch A). u.ring) t.is))
+      ∙ ap (λ (r : RingId). user_messages_between core r 0 (mark core r)) (sym (o.ring ∙ ap (λ (u : Epoch A). u.ring) t.is))
 
   -- The logs of the life are those of the rings
 
-  module _ (part : Part A) (n : RingId → ℕ) (is_part : (s : Epoch A) (older : List (Epoch A)) → HasEpoch epochs s older → part.of s ≡ users core s.ring 0 (n s.ring)) where
+  module _ (part : Part A) (n : RingId → ℕ) (is_part : (s : Epoch A) (older : List (Epoch A)) → HasEpoch epochs s older → part.of s ≡ user_messages_between core s.ring 0 (n s.ring)) where
     to-ring : (ring : RingId) (log : List (Call A)) → TellsHere part ring log → HasRingLog group w i ring (n ring) log
     to-ring ring log t =
-        let in_ring : ring_log group (whole_epochs_in w) t.epoch.ring t.epoch.members (users core t.epoch.ring 0 (n t.epoch.ring)) ≡ Some log =
+        let in_ring : ring_log group (whole_epochs_in w) t.epoch.ring t.epoch.members (user_messages_between core t.epoch.ring 0 (n t.epoch.ring)) ≡ Some log =
         subst (λ (xs : List (Message A)). ring_log group (whole_epochs_in w) t.epoch.ring t.epoch.members xs ≡ Some log) (is_part t.epoch t.older t.there) t.is in
         record {
           at = record { epoch = t.epoch; older = t.older; there = t.there; ring = t.ring_is };
-          is = subst (λ (r : RingId). ring_log group (whole_epochs_in w) r t.epoch.members (users core r 0 (n r)) ≡ Some log) t.ring_is in_ring;
+          is = subst (λ (r : RingId). ring_log group (whole_epochs_in w) r t.epoch.members (user_messages_between core r 0 (n r)) ≡ Some log) t.ring_is in_ring;
         }
 
     from-ring : (ring : RingId) (log : List (Call A)) → HasRingLog group w i ring (n ring) log → TellsHere part ring log
     from-ring ring log h =
         let at = h.at in
-        let in_ring : ring_log group (whole_epochs_in w) at.epoch.ring at.epoch.members (users core at.epoch.ring 0 (n at.epoch.ring)) ≡ Some log =
-        subst (λ (r : RingId). ring_log group (whole_epochs_in w) r at.epoch.members (users core r 0 (n r)) ≡ Some log) (sym at.ring) h.is in
+        let in_ring : ring_log group (whole_epochs_in w) at.epoch.ring at.epoch.members (user_messages_between core at.epoch.ring 0 (n at.epoch.ring)) ≡ Some log =
+        subst (λ (r : RingId). ring_log group (whole_epochs_in w) r at.epoch.members (user_messages_between core r 0 (n r)) ≡ Some log) (sym at.ring) h.is in
         record {
           epoch = at.epoch;
           older = at.older;
@@ -135,12 +135,12 @@ module _ {O A : Type 0} (object : Sequential O) (group : Group) (events : List (
       → HasRestored group w i ring calls
   to-restored ring calls r =
       let s = r.epoch in
-      let here : complete_exchange group s.members (users core s.ring 0 (front core s.ring)) ≡ Some r.whole =
+      let here : complete_exchange group s.members (user_messages_between core s.ring 0 (front core s.ring)) ≡ Some r.whole =
       subst (λ (xs : List (Message A)). complete_exchange group s.members xs ≡ Some r.whole) (heard-to-front s r.older r.there) r.exch in
       record {
         at = record { epoch = s; older = r.older; there = r.there; ring = r.ring_is };
         whole = r.whole;
-        exch = subst (λ (q : RingId). complete_exchange group s.members (users core q 0 (front core q)) ≡ Some r.whole) r.ring_is here;
+        exch = subst (λ (q : RingId). complete_exchange group s.members (user_messages_between core q 0 (front core q)) ≡ Some r.whole) r.ring_is here;
         v = r.v;
         wants = r.wants;
         places = r.places;
@@ -156,7 +156,7 @@ module _ {O A : Type 0} (object : Sequential O) (group : Group) (events : List (
       let s = at.epoch in
       let there : complete_exchange group s.members s.heard ≡ Some h.whole =
       subst (λ (xs : List (Message A)). complete_exchange group s.members xs ≡ Some h.whole) (sym (heard-to-front s at.older at.there))
-      (subst (λ (q : RingId). complete_exchange group s.members (users core q 0 (front core q)) ≡ Some h.whole) (sym at.ring) h.exch) in
+      (subst (λ (q : RingId). complete_exchange group s.members (user_messages_between core q 0 (front core q)) ≡ Some h.whole) (sym at.ring) h.exch) in
       record {
         epoch = s;
         older = at.older;

@@ -22,13 +22,13 @@ use Rattle.ring_core_spec.specs.State.{Core, Transmission, StepResult, frame_at}
 use Rattle.ring_core_spec.specs.Stepping.{ring_step}
 use Rattle.ring_core_spec.specs.declared.input.Input.TheVariants.{Frame as CoreFrame, Timeout as CoreTimeout}
 use Rattle.ring_core_spec.specs.declared.out.Out.{Out}
-use Rattle.ring_log.specs.Epochs.{Epoch, epochs_opening, epochs_with_sends, epochs_with_trim, above}
-use Rattle.ring_log.specs.EpochHistories.{CompleteExchange, complete_exchange, log_of, committed_of, filled, fronts_below}
-use Rattle.ring_log.specs.KnownLog.{KnownLog, kept_by, known_log_opening, known_log_of, retained_log, is_known_log_sound}
+use Rattle.ring_log.specs.Epochs.{Epoch, history_opening_of, epochs_with_sends, epochs_with_trim, number_above_rings}
+use Rattle.ring_log.specs.EpochHistories.{CompleteExchange, complete_exchange, log_of, committed_of, epochs_with_snapshots, fronts_below}
+use Rattle.ring_log.specs.KnownLog.{KnownLog, known_log_after_epoch, known_log_opening, known_log_of, retained_log, is_known_log_sound}
 use Rattle.ring_log.specs.Logs.{committed_calls}
 use Rattle.ring_log.proofs.CommittedOf.{epochs_with_sends-kept, epochs_with_trim-from}
 use Rattle.ring_log_proof.specs.RingFacts.{HasEpoch, EpochIn}
-use Rattle.ring_log_proof.specs.Time.{IsEpochsExtended}
+use Rattle.ring_log_proof.specs.EpochEvents.{IsEpochsExtended}
 use Rattle.ring_log_proof.specs.Views.{IsView}
 use Rattle.ring_log_proof.proofs.FilledEpochs.{kept-filled, filled-there}
 use Rattle.ring_log_proof.proofs.Prefixes.{fill}
@@ -41,15 +41,15 @@ use Rattle.ring_node_spec.specs.Orders.{order_of}
 use Rattle.ring_session.specs.Deduplicated.{deduplicated}
 use Rattle.ring_session.specs.DeduplicatedLaws.{deduplicated-front}
 use Rattle.ring_node_spec.specs.Nodes.{Node, node_stopped, node_known_log, is_closed, is_restored}
-use Rattle.ring_node_spec.specs.Stepping.{NodeStepResult, node_after_outputs, newly_committed, drops, ended, did, settled, after_core, node_step, submit_fault, submitted}
+use Rattle.ring_node_spec.specs.Stepping.{NodeStepResult, node_after_outputs, newly_committed, drops, step_after_trim, did, settled, after_core, node_step, submit_fault, node_after_submit}
 use Rattle.ring_node_spec.specs.Stepping.{due_by_submit, with_dropped}
-use Rattle.ring_node_spec.specs.DueSends.{due_by}
+use Rattle.ring_node_spec.specs.DueSends.{due_of_outputs}
 use Rattle.ring_node_spec.specs.declared.input.Input.{Input}
 use Rattle.ring_node_spec.specs.declared.input.Input.TheVariants.{Frame as FrameInput, Noise as NoiseInput, Timeout as TimeInput, Stop as StopInput}
 use Rattle.ring_node_spec.specs.declared.event.Event.{Event}
 use Rattle.ring_node_spec.specs.declared.event.Event.TheVariants.{Issue, Deliver, Noise, Timeout, Stop}
-use Rattle.ring_node_spec.specs.Worlds.{World, world_opening, put, is_node, calls_past, after_step, issued_or, issued_if, stopped_if, stepped_if, handed_if}
-use Rattle.ring_node_spec.specs.Worlds.{handed, happens, run, epochs_in, whole_epochs_in, committed_in, order}
+use Rattle.ring_node_spec.specs.Worlds.{World, world_opening, with_node, is_node, calls_past, after_step, world_after_submit, world_after_submit_if_member, world_after_stop_if_member, world_after_input_if_member, world_after_receipt_if_sent}
+use Rattle.ring_node_spec.specs.Worlds.{world_after_delivery, world_after_event, run, epochs_in, whole_epochs_in, committed_in, order}
 use Rattle.ring_order_proof.proofs.DisciplinedWorlds.{AllKept, opened_on, run_group}
 use Rattle.ring_order_proof.proofs.ConsistentRuns.{IsOrderlyWorld, run-more, orderly, lives_on}
 use Rattle.ring_order_proof.proofs.RestoredPlaces.{Restored, gone, dropped-most, most-through, restored-epochs_with_sends, restored-epochs_with_trim, restored-owned}
@@ -195,11 +195,11 @@ longest-same {A} before after count longest same is = record {
 
 -- ---- the known log of a node
 
-pub epochs_opening-known : (A : Type 0) (group : Group) (me : ℕ) → (known_log_of group (epochs_opening {A = A} me)).committed ≡ 0
-epochs_opening-known A group me =
+pub history_opening_of-known : (A : Type 0) (group : Group) (me : ℕ) → (known_log_of group (history_opening_of {A = A} me)).committed ≡ 0
+history_opening_of-known A group me =
     let none : complete_exchange {A = A} group (only me) [] ≡ None = cond_both (is_primary group (only me)) None None (λ (o : Option (CompleteExchange A)). o ≡ None) (λ t. refl)
     (λ f. refl) in
-    ap (λ (o : Option (CompleteExchange A)). (kept_by (record { seq = 0; rep = me }) known_log_opening o o).committed) none
+    ap (λ (o : Option (CompleteExchange A)). (known_log_after_epoch (record { seq = 0; rep = me }) known_log_opening o o).committed) none
 
 -- the known log after a step that newly commits these calls
 pub record IsNew {A : Type 0} (n : Node A) (epochs : List (Epoch A)) (x : NodeStepResult A) : Type 0 where
@@ -226,7 +226,7 @@ epochs_with_trim-many group places (s ∷ older) = refl
 module _ {O A : Type 0} (object : Sequential O) (n : Node A) where
   -- a step that isn't stopped
   step-new : (core : Core A) (outs : List (Out A)) (epochs : List (Epoch A)) (due : List (Payload A)) (closed : Bool)
-      → IsNew n epochs (ended object closed (known_log_of n.group epochs)
+      → IsNew n epochs (step_after_trim object closed (known_log_of n.group epochs)
       (did object n (node_after_outputs n core epochs due) outs (known_log_of n.group epochs) (newly_committed (node_known_log n) (known_log_of n.group epochs))))
   step-new core outs epochs due closed =
       let k = known_log_of n.group epochs in
@@ -264,7 +264,7 @@ module _ {O A : Type 0} (object : Sequential O) (n : Node A) where
   core-comes : (s : StepResult A) → Comes (after_core object n s)
   core-comes s =
       let epochs = epochs_after n.epochs s.outs in
-      settled-comes (is_known_log_sound n.group epochs && is_restored object (known_log_of n.group epochs)) s.core s.outs (due_by object n s.core n.epochs s.outs)
+      settled-comes (is_known_log_sound n.group epochs && is_restored object (known_log_of n.group epochs)) s.core s.outs (due_of_outputs object n s.core n.epochs s.outs)
 
   pub step-comes : (input : Input A) → Comes (node_step object n input)
   step-comes (FrameInput frame) = core-comes (ring_step n.core (CoreFrame frame))
@@ -291,7 +291,7 @@ module _ {A : Type 0} (group : Group) (w : World A) (is : IsWorld group w) where
   -- each node's known log is that of its life, whatever snapshots stand for
   kept-is : (i : ℕ) → 1 ≤ i → i ≤ group.count → known_log_of group (whole_epochs_in w i) ≡ node_known_log (w.nodes i)
   kept-is i low high =
-      kept-filled (fronts_below w.group (epochs_in w) (above (epochs_in w i))) i group (epochs_in w i)
+      kept-filled (fronts_below w.group (epochs_in w) (number_above_rings (epochs_in w i))) i group (epochs_in w i)
       ∙ ap (known_log_of group) (cond-true (is_node w i) (w.nodes i).epochs [] (a-node i low high))
       ∙ ap (λ g. known_log_of g (w.nodes i).epochs) (sym (is.nodes i).group_is)
 
@@ -312,19 +312,19 @@ module _ {A : Type 0} (group : Group) (w : World A) (is : IsWorld group w) where
         )
     | inr f ↦
         let none : epochs_in w i ≡ [] = cond-false (is_node w i) (w.nodes i).epochs [] f in
-        absurd (subst (λ (l : List (Epoch A)). HasEpoch (filled (fronts_below w.group (epochs_in w) (above (epochs_in w i))) i l) at.epoch at.older) none at.there)
+        absurd (subst (λ (l : List (Epoch A)). HasEpoch (epochs_with_snapshots (fronts_below w.group (epochs_in w) (number_above_rings (epochs_in w i))) i l) at.epoch at.older) none at.there)
   ]
 
   -- what a node's life restored is in the filled life
   restored-filled : (i places : ℕ) → 1 ≤ i → i ≤ group.count → Restored (w.nodes i).group (w.nodes i).epochs places → Restored group (whole_epochs_in w i) places
   restored-filled i places low high r =
-      let fronts = fronts_below w.group (epochs_in w) (above (epochs_in w i)) in
+      let fronts = fronts_below w.group (epochs_in w) (number_above_rings (epochs_in w i)) in
       let here : epochs_in w i ≡ (w.nodes i).epochs = cond-true (is_node w i) (w.nodes i).epochs [] (a-node i low high) in
       let own : Restored group (epochs_in w i) places = subst (λ l. Restored group l places) (sym here)
       (subst (λ g. Restored g (w.nodes i).epochs places) (is.nodes i).group_is r) in
       record {
         epoch = fill fronts i own.epoch;
-        older = filled fronts i own.older;
+        older = epochs_with_snapshots fronts i own.older;
         there = filled-there fronts i (epochs_in w i) own.epoch own.older own.there;
         whole = own.whole;
         exch = own.exch;
@@ -508,11 +508,11 @@ module _ {O A : Type 0} (object : Sequential O) (group : Group) (w : World A) (g
   still = inl (record { longest = refl; same = λ j. refl })
 
   put-still : (i : ℕ) (n : Node A) → (node_known_log n).committed ≡ (node_known_log (w.nodes i)).committed → (j : ℕ)
-      → (node_known_log (put w.nodes i n j)).committed ≡ (node_known_log (w.nodes j)).committed
+      → (node_known_log (with_node w.nodes i n j)).committed ≡ (node_known_log (w.nodes j)).committed
   put-still i n e j = cond_both (j == i) n (w.nodes j) (λ (m : Node A). (node_known_log m).committed ≡ (node_known_log (w.nodes j)).committed)
       (λ t. let same : j ≡ i = eqb-true j i t in e ∙ ap (λ q. (node_known_log (w.nodes q)).committed) (sym same)) (λ f. refl)
 
-  step-moves : (b : Bool) (i : ℕ) (input : Input A) → is_node w i ≡ b → Moves (stepped_if object b w i input)
+  step-moves : (b : Bool) (i : ℕ) (input : Input A) → is_node w i ≡ b → Moves (world_after_input_if_member object b w i input)
   step-moves false i input e = still
   step-moves true i input e =
       let parts = and_parts _ _ e in
@@ -525,33 +525,33 @@ module _ {O A : Type 0} (object : Sequential O) (group : Group) (w : World A) (g
         is = refl;
       })
 
-  submit-moves : (o : Option Fault) (i : ℕ) (c : Call A) → Moves (issued_or o w i c)
+  submit-moves : (o : Option Fault) (i : ℕ) (c : Call A) → Moves (world_after_submit o w i c)
   submit-moves (Some fault) i c = inl (record { longest = refl; same = λ j. refl })
   submit-moves None i c = inl (record {
     longest = refl;
-    same = put-still i (submitted (w.nodes i) c)
+    same = put-still i (node_after_submit (w.nodes i) c)
         (ap (λ (k : KnownLog A). k.committed) (epochs_with_sends-kept (w.nodes i).group (due_by_submit (w.nodes i) c) (w.nodes i).epochs));
   })
 
-  issue-moves : (b : Bool) (i : ℕ) (c : Call A) → Moves (issued_if b w i c)
+  issue-moves : (b : Bool) (i : ℕ) (c : Call A) → Moves (world_after_submit_if_member b w i c)
   issue-moves false i c = still
   issue-moves true i c = submit-moves (submit_fault (w.nodes i)) i c
 
-  stop-moves : (b : Bool) (i : ℕ) → Moves (stopped_if b w i)
+  stop-moves : (b : Bool) (i : ℕ) → Moves (world_after_stop_if_member b w i)
   stop-moves false i = still
   stop-moves true i = inl (record { longest = refl; same = put-still i (node_stopped (w.nodes i)) refl })
 
-  frame-moves : (b : Bool) (i : ℕ) (frame : Frame A) → Moves (handed_if object b w i frame)
+  frame-moves : (b : Bool) (i : ℕ) (frame : Frame A) → Moves (world_after_receipt_if_sent object b w i frame)
   frame-moves false i frame = still
   frame-moves true i frame = step-moves (is_node w i) i (FrameInput frame) refl
 
-  handed-moves : (o : Option (Transmission A)) (i : ℕ) → Moves (handed object w i o)
-  handed-moves None i = still
-  handed-moves (Some f) i = frame-moves (has f.to i) i f.frame
+  world_after_delivery-moves : (o : Option (Transmission A)) (i : ℕ) → Moves (world_after_delivery object w i o)
+  world_after_delivery-moves None i = still
+  world_after_delivery-moves (Some f) i = frame-moves (has f.to i) i f.frame
 
-  event-moves : (e : Event A) → Moves (happens object w e)
+  event-moves : (e : Event A) → Moves (world_after_event object w e)
   event-moves (Issue i c) = issue-moves (is_node w i) i c
-  event-moves (Deliver i n) = handed-moves (frame_at w.frames n) i
+  event-moves (Deliver i n) = world_after_delivery-moves (frame_at w.frames n) i
   event-moves (Noise i bytes) = still
   event-moves (Timeout i kind) = step-moves (is_node w i) i (TimeInput kind) refl
   event-moves (Stop i) = stop-moves (is_node w i) i
@@ -569,7 +569,7 @@ module _ {O A : Type 0} (object : Sequential O) (group : Group) (few : group.cou
     group_is = run_group object group events;
   }
 
-  after-is : (events : List (Event A)) (e : Event A) → IsWorld group (happens object (At events) e)
+  after-is : (events : List (Event A)) (e : Event A) → IsWorld group (world_after_event object (At events) e)
   after-is events e = subst (IsWorld group) (run-more object (world_opening group) events e) (world-is (events ++ e ∷ []))
 
   opening-longest : IsLongest (committed_by group (world_opening {A = A} group)) group.count []
@@ -577,7 +577,7 @@ module _ {O A : Type 0} (object : Sequential O) (group : Group) (few : group.cou
       let is : IsWorld group (world_opening {A = A} group) = world-is [] in record {
         fronts = λ i low high.
             let size = size-is group (world_opening {A = A} group) is i low high in
-            let none = epochs_opening-known A group i in
+            let none = history_opening_of-known A group i in
             ([], append-nil (committed_by group (world_opening {A = A} group) i) ∙ empty (committed_by group (world_opening {A = A} group) i) (omega (arith, size, none)));
         some = inl refl;
       }
@@ -587,10 +587,10 @@ module _ {O A : Type 0} (object : Sequential O) (group : Group) (few : group.cou
       empty (x ∷ xs) e = absurd (omega (arith, e))
 
   next-longest : (events : List (Event A)) (e : Event A) → IsLongest (committed_by group (At events)) group.count (At events).longest
-      → IsLongest (committed_by group (happens object (At events) e)) group.count (happens object (At events) e).longest
+      → IsLongest (committed_by group (world_after_event object (At events) e)) group.count (world_after_event object (At events) e).longest
   next-longest events e is =
       let w = At events in
-      let w' = happens object w e in
+      let w' = world_after_event object w e in
       let known = world-is events in
       let known' = after-is events e in
       let on : (i : ℕ) → IsEpochsExtended (whole_epochs_in w i) (whole_epochs_in w' i) = lives_on object group few events (e ∷ []) in

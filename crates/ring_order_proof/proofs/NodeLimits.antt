@@ -31,11 +31,11 @@ use Rattle.ring_session.specs.Tickets.{TicketCall}
 use Rattle.ring_node_spec.specs.declared.input.Input.{Input as NodeInput}
 use Rattle.ring_node_spec.specs.declared.input.Input.TheVariants.{Frame as NodeFrame, Noise as NodeNoise, Timeout as NodeTime, Stop as NodeStop}
 use Rattle.ring_node_spec.specs.NodeLimits.{InputFits as NodeInputFits}
-use Rattle.ring_node_spec.specs.DueSends.{due_by}
+use Rattle.ring_node_spec.specs.DueSends.{due_of_outputs}
 use Rattle.ring_node_spec.specs.EpochHistories.{epochs_after}
 use Rattle.ring_node_spec.specs.Nodes.{Node, node_opening, node_known_log, node_stopped, runs_adopted, is_closed, is_restored}
-use Rattle.ring_node_spec.specs.Stepping.{NodeStepResult, handed_over, node_after_outputs, send_of, with_dropped, newly_committed, drops, did, ended, settled, moved, node_step}
-use Rattle.ring_node_spec.specs.Stepping.{due_by_submit, submitted}
+use Rattle.ring_node_spec.specs.Stepping.{NodeStepResult, handed_over, node_after_outputs, send_of, with_dropped, newly_committed, drops, did, step_after_trim, settled, step_after_core, node_step}
+use Rattle.ring_node_spec.specs.Stepping.{due_by_submit, node_after_submit}
 use Rattle.ring_core_proof.specs.Limits.{InputFits, OutFits, CoreFits, SentFits}
 use Rattle.ring_core_proof.proofs.TransitionLimits.{step_fits}
 use Rattle.ring_core_proof.proofs.RunLimits.{opening_fits, halted_fits}
@@ -141,7 +141,7 @@ dropped_fits n places le f =
 
 module _ {O A : Type 0} (object : Sequential O) where
   ended_fits : (closed : Bool) (k : KnownLog A) (s : NodeStepResult A) → k.committed ≤ (node_known_log s.node).committed → SteppedFits s →
-      SteppedFits (ended object closed k s)
+      SteppedFits (step_after_trim object closed k s)
   ended_fits closed k s le f =
       cond_both (drops object closed k) (record s { node = with_dropped k.committed s.node; dropped = _ }) s SteppedFits
       (λ t. record { node = dropped_fits s.node k.committed le f.node; sends = f.sends }) (λ e. f)
@@ -151,12 +151,12 @@ module _ {O A : Type 0} (object : Sequential O) where
         (b ≡ true → is_known_log_sound n.group (epochs_after n.epochs (ring_step n.core input).outs) ≡ true) →
         let s = ring_step n.core input in
         let epochs = epochs_after n.epochs s.outs in
-        SteppedFits (settled object b n (node_after_outputs n s.core epochs (due_by object n s.core n.epochs s.outs)) s.outs (known_log_of n.group epochs))
+        SteppedFits (settled object b n (node_after_outputs n s.core epochs (due_of_outputs object n s.core n.epochs s.outs)) s.outs (known_log_of n.group epochs))
     settled_fits input w false e = record { node = node_halts n f; sends = tt }
     settled_fits input w true e =
         let s = ring_step n.core input in
         let epochs = epochs_after n.epochs s.outs in
-        let due = due_by object n s.core n.epochs s.outs in
+        let due = due_of_outputs object n s.core n.epochs s.outs in
         let k = known_log_of n.group epochs in
         let fits = step_fits n.core input f.core w in
         let tells = step_tells n.core input f.core w in
@@ -175,7 +175,7 @@ module _ {O A : Type 0} (object : Sequential O) where
 
     moved_fits : (input : Input A) → InputFits input →
         let s = ring_step n.core input in
-        SteppedFits (moved object n s.core s.outs (epochs_after n.epochs s.outs))
+        SteppedFits (step_after_core object n s.core s.outs (epochs_after n.epochs s.outs))
     moved_fits input w =
         let epochs = epochs_after n.epochs (ring_step n.core input).outs in
         let sound = is_known_log_sound n.group epochs in
@@ -190,7 +190,7 @@ module _ {O A : Type 0} (object : Sequential O) where
 
 -- A submit
 
-pub submitted_fits : {A : Type 0} → (n : Node A) (c : OneCall A) → NodeFits n → CallFits c → NodeFits (submitted n c)
+pub submitted_fits : {A : Type 0} → (n : Node A) (c : OneCall A) → NodeFits n → CallFits c → NodeFits (node_after_submit n c)
 submitted_fits {A} n c f h =
     let t : TicketCall A = record { call = c; since = length n.done } in
     let due : Each PayloadFits (due_by_submit n c) =
@@ -200,7 +200,7 @@ submitted_fits {A} n c f h =
     (each-push (λ (t : TicketCall A). CallFits t.call) n.tickets t f.tickets h)
 
 -- after a submit, or after it was refused
-pub takes : {A T : Type 0} (n m : Node A) (call : OneCall A) (r : Result T Fault) → NodeFits n → (NodeFits n → CallFits call → NodeFits (submitted n call))
-    → CallFits call → OnOk r (m ≡ submitted n call) → OnErr r (m ≡ n) → NodeFits m
+pub takes : {A T : Type 0} (n m : Node A) (call : OneCall A) (r : Result T Fault) → NodeFits n → (NodeFits n → CallFits call → NodeFits (node_after_submit n call))
+    → CallFits call → OnOk r (m ≡ node_after_submit n call) → OnErr r (m ≡ n) → NodeFits m
 takes n m call (Ok x) fits law comes taken kept = subst NodeFits (sym taken) (law fits comes)
 takes n m call (Err x) fits law comes taken kept = subst NodeFits (sym kept) fits

@@ -14,14 +14,14 @@ use Rattle.ring_base.specs.Numbers.{numbers_from}
 use Rattle.ring_base.specs.declared.ring_id.RingId.{RingId}
 use Rattle.ring_base.proofs.Each.{each-weaker, each-append, each-take, each-filter}
 use Rattle.ring_payload.specs.declared.content.Payload.{Payload}
-use Rattle.ring_payload.specs.Kinds.{is_user, unpacked_payloads}
+use Rattle.ring_payload.specs.PayloadKinds.{is_user, unpacked_payloads}
 use Rattle.ring_wire.specs.declared.message.Message.{Message}
 use Rattle.ring_wire.specs.declared.token.Token.{Token}
 use Rattle.ring_core_spec.specs.Tokens.{TokenVisit, numbered, VisitBy, token_arrived, AreVisits}
 use Rattle.ring_core_spec.proofs.Tokens.{length-numbered, numbered-ring}
 use Rattle.ring_core_proof.specs.FactWords.{IsIn, SomeIs}
 use Rattle.ring_core_proof.proofs.InLists.{in-left, in-right, in-parts, in-filtered, each-in}
-use Rattle.ring_log.specs.EpochHistories.{upto}
+use Rattle.ring_log.specs.EpochHistories.{messages_upto}
 use Rattle.ring_synchrony_proof.specs.Chains.{visits_taken_by}
 use Rattle.ring_log_proof.specs.RingFacts.{payloads_from}
 use Rattle.ring_order_proof.specs.SentPayloads.{payloads_of_visit, payloads_of_visits}
@@ -176,14 +176,14 @@ users_front {A} xs ys f = (users_in f.0, sym (filter-append (λ (x : Message A).
 
 -- Up to a number
 
-upto_none : {A : Type 0} → (k : ℕ) (xs : List (Message A)) → Each (λ (x : Message A). k < x.number) xs → upto k xs ≡ []
+upto_none : {A : Type 0} → (k : ℕ) (xs : List (Message A)) → Each (λ (x : Message A). k < x.number) xs → messages_upto k xs ≡ []
 upto_none k [] h = refl
-upto_none k (x ∷ xs) h = cond-false (nat_le x.number k) (x ∷ upto k xs) [] (lt-leb x.number k h.0)
+upto_none k (x ∷ xs) h = cond-false (nat_le x.number k) (x ∷ messages_upto k xs) [] (lt-leb x.number k h.0)
 
-pub upto_taken : {A : Type 0} → (k m f : ℕ) (xs : List (Message A)) → AreFrom k xs → m ≤ f → upto (k + m) (users_in (take f xs)) ≡ users_in (take m xs)
+pub upto_taken : {A : Type 0} → (k m f : ℕ) (xs : List (Message A)) → AreFrom k xs → m ≤ f → messages_upto (k + m) (users_in (take f xs)) ≡ users_in (take m xs)
 upto_taken {A} k zero f xs h l =
     let e : k + 0 ≡ k = omega arith in
-    ap (λ (n : ℕ). upto n (users_in (take f xs))) e
+    ap (λ (n : ℕ). messages_upto n (users_in (take f xs))) e
     ∙ upto_none k (users_in (take f xs))
     (each-filter (λ (x : Message A). k < x.number) (λ (x : Message A). is_user x.payload) (take f xs)
     (each-take (λ (x : Message A). k < x.number) f xs (all_above k xs h)))
@@ -192,14 +192,14 @@ upto_taken k (suc m) (suc f) [] h l = refl
 upto_taken {A} k (suc m) (suc f) (x ∷ xs) h l =
     by (is_user x.payload) (upto_taken (suc k) m f xs h.1 (omega arith))
   where
-    by : (b : Bool) → upto (suc k + m) (users_in (take f xs)) ≡ users_in (take m xs) →
-        upto (k + suc m) (if b then x ∷ users_in (take f xs) else users_in (take f xs)) ≡ (if b then x ∷ users_in (take m xs) else users_in (take m xs))
+    by : (b : Bool) → messages_upto (suc k + m) (users_in (take f xs)) ≡ users_in (take m xs) →
+        messages_upto (k + suc m) (if b then x ∷ users_in (take f xs) else users_in (take f xs)) ≡ (if b then x ∷ users_in (take m xs) else users_in (take m xs))
     by true r =
         let e : k + suc m ≡ suc k + m = omega arith in
         let n : x.number ≡ suc k = h.0 in
-        cond-true (nat_le x.number (k + suc m)) (x ∷ upto (k + suc m) (users_in (take f xs))) [] (le-leb x.number (k + suc m) (omega (arith, n)))
-        ∙ ap (λ (ys : List (Message A)). x ∷ ys) (ap (λ (n : ℕ). upto n (users_in (take f xs))) e ∙ r)
-    by false r = (let e : k + suc m ≡ suc k + m = omega arith in ap (λ (n : ℕ). upto n (users_in (take f xs))) e ∙ r)
+        cond-true (nat_le x.number (k + suc m)) (x ∷ messages_upto (k + suc m) (users_in (take f xs))) [] (le-leb x.number (k + suc m) (omega (arith, n)))
+        ∙ ap (λ (ys : List (Message A)). x ∷ ys) (ap (λ (n : ℕ). messages_upto n (users_in (take f xs))) e ∙ r)
+    by false r = (let e : k + suc m ≡ suc k + m = omega arith in ap (λ (n : ℕ). messages_upto n (users_in (take f xs))) e ∙ r)
 
 take_all : {X : Type 0} (n : ℕ) (xs : List X) → length xs ≤ n → take n xs ≡ xs
 take_all zero [] l = refl
@@ -207,12 +207,12 @@ take_all zero (x ∷ xs) l = absurd (omega (arith, l))
 take_all (suc n) [] l = refl
 take_all {X} (suc n) (x ∷ xs) l = ap (λ (ys : List X). x ∷ ys) (take_all n xs (omega (arith, l)))
 
-pub upto_all : {A : Type 0} → (m : ℕ) (xs : List (Message A)) → AreFrom 0 xs → upto m (users_in xs) ≡ users_in (take m xs)
+pub upto_all : {A : Type 0} → (m : ℕ) (xs : List (Message A)) → AreFrom 0 xs → messages_upto m (users_in xs) ≡ users_in (take m xs)
 upto_all {A} m xs h =
     let same : 0 + m ≡ m = omega arith in
     let all : take (length xs + m) xs ≡ xs = take_all (length xs + m) xs (omega arith) in
-    subst (λ (ys : List (Message A)). upto m (users_in ys) ≡ users_in (take m xs)) all
-    (subst (λ (n : ℕ). upto n (users_in (take (length xs + m) xs)) ≡ users_in (take m xs)) same (upto_taken 0 m (length xs + m) xs h (omega arith)))
+    subst (λ (ys : List (Message A)). messages_upto m (users_in ys) ≡ users_in (take m xs)) all
+    (subst (λ (n : ℕ). messages_upto n (users_in (take (length xs + m) xs)) ≡ users_in (take m xs)) same (upto_taken 0 m (length xs + m) xs h (omega arith)))
 
 -- What one processor sent
 

@@ -15,10 +15,10 @@ use Rattle.ring_base.specs.Numbers.{numbers_from}
 use Rattle.ring_base.specs.Processors.{IsProc}
 use Rattle.ring_base.specs.declared.ring_id.RingId.{RingId}
 use Rattle.ring_base.proofs.Each.{each-filter, each-filter_map}
-use Rattle.ring_payload.specs.Kinds.{is_user}
+use Rattle.ring_payload.specs.PayloadKinds.{is_user}
 use Rattle.ring_wire.specs.declared.message.Message.{Message}
 use Rattle.ring_core_spec.specs.Windows.{found}
-use Rattle.ring_core_spec.specs.Recoveries.{rests}
+use Rattle.ring_core_spec.specs.Recoveries.{rest_messages}
 use Rattle.ring_core_spec.specs.declared.input.Input.{Input}
 use Rattle.ring_core_spec.specs.declared.out.Out.{Out}
 use Rattle.ring_core_spec.specs.declared.out.Out.TheVariants.{Send as SendOut, Safe as SafeOut, Rest as RestOut}
@@ -26,9 +26,9 @@ use Rattle.ring_core_spec.specs.declared.out.Out.TheVariants.{Regular as Regular
 use Rattle.ring_core_spec.specs.State.{Core, OutgoingFrame}
 use Rattle.ring_core_spec.specs.Views.{front, mark, plan}
 use Rattle.ring_core_spec.specs.Deciding.{decide}
-use Rattle.ring_core_spec.specs.Transitions.{done}
-use Rattle.ring_core_spec.specs.Giving.{may_install, addressed, sent, users, all_agreed, agreed_from, safe_from, delivered_from}
-use Rattle.ring_core_spec.specs.Giving.{given, installation_outputs, settle}
+use Rattle.ring_core_spec.specs.Transitions.{transition_and_proposal}
+use Rattle.ring_core_spec.specs.Giving.{may_install, sends_with_receivers, sent, user_messages_between, all_agreed, agreed_from, safe_from, delivered_from}
+use Rattle.ring_core_spec.specs.Giving.{agreed_and_safe_of_step, installation_outputs, with_installation_if}
 use Rattle.ring_core_spec.specs.Stepping.{ring_step}
 use Rattle.ring_core_proof.specs.CoreInvariants.{RingsFit, FactsFit}
 use Rattle.ring_synchrony_proof.proofs.InstallMarks.{install_marks}
@@ -36,9 +36,9 @@ use Rattle.ring_synchrony_proof.proofs.UserMessages.{found_as}
 use Rattle.ring_log.specs.declared.wanted.Wanted.{Wanted}
 use Rattle.ring_log.specs.Exchanges.{exchange_opening, wanted}
 use Rattle.ring_log.specs.Epochs.{Epoch, epoch_opening}
-use Rattle.ring_log.specs.EpochHistories.{CompleteExchange, complete_exchange_from, complete_exchange, upto}
+use Rattle.ring_log.specs.EpochHistories.{CompleteExchange, complete_exchange_from, complete_exchange, messages_upto}
 use Rattle.ring_log.specs.KnownLog.{KnownLog, restores, known_log_restored, known_log_joined, adopts, adopts_wanted, watermark_by}
-use Rattle.ring_log.specs.KnownLog.{kept_by, dropped_by, known_log_of}
+use Rattle.ring_log.specs.KnownLog.{known_log_after_epoch, dropped_by, known_log_of}
 use Rattle.ring_log_proof.proofs.CompleteExchanges.{grown, complete_exchange-front, upto-front}
 use Rattle.ring_log_proof.proofs.KnownGrows.{adopts-grown}
 use Rattle.ring_node_spec.specs.EpochHistories.{epochs_after}
@@ -57,9 +57,9 @@ numbers-above : (f first count : ℕ) → f < first → Each (λ n. f < n) (numb
 numbers-above f first zero above = tt
 numbers-above f first (suc count) above = (above, numbers-above f (suc first) count (omega (arith, above)))
 
-users-above : {A : Type 0} (c : Core A) (ring : RingId) (f high : ℕ) →
-    Each (λ (x : Message A). f < x.number) (users c ring f high)
-users-above {A} c ring f high =
+user_messages_between-above : {A : Type 0} (c : Core A) (ring : RingId) (f high : ℕ) →
+    Each (λ (x : Message A). f < x.number) (user_messages_between c ring f high)
+user_messages_between-above {A} c ring f high =
     let numbers = numbers_from (f + 1) (high - f) in
     each-filter (λ (x : Message A). f < x.number) (λ (x : Message A). is_user x.payload) (filter_map (found c.held ring) numbers)
     (each-filter_map (λ n. f < n) (λ (x : Message A). f < x.number) (found c.held ring)
@@ -67,9 +67,9 @@ users-above {A} c ring f high =
     (numbers-above f (f + 1) (high - f) (omega arith)))
 
 upto-same : {A : Type 0} (m f : ℕ) (xs more : List (Message A)) → m ≤ f → Each (λ (x : Message A). f < x.number) more →
-    upto m (xs ++ more) ≡ upto m xs
+    messages_upto m (xs ++ more) ≡ messages_upto m xs
 upto-same m f [] [] le above = refl
-upto-same m f [] (y ∷ more) le above = cond-false (nat_le y.number m) (y ∷ upto m more) []
+upto-same m f [] (y ∷ more) le above = cond-false (nat_le y.number m) (y ∷ messages_upto m more) []
     (lt-leb y.number m (let l = above.0 in omega (arith, le, l)))
 upto-same {A} m f (x ∷ xs) more le above = ap (λ (l : List (Message A)). if nat_le x.number m then x ∷ l else [])
     (upto-same m f xs more le above)
@@ -114,17 +114,17 @@ module _ {A : Type 0} (group : Group) (s : Epoch A) (older : List (Epoch A)) whe
 
   -- the known log, given the exchange in its messages and in its safe ones
   abbrev known_by : Option (CompleteExchange A) → Option (CompleteExchange A) → KnownLog A
-  known_by o safe = dropped_by s.trimmed (kept_by s.ring before o safe)
+  known_by o safe = dropped_by s.trimmed (known_log_after_epoch s.ring before o safe)
 
   module _ (more : List (Message A)) where
     -- while the exchange is open nothing changes
     open-same : (mark : ℕ) → exchange_in (s.heard ++ more) ≡ None →
         known_log_of group (record s { heard = s.heard ++ more; mark = mark } ∷ older) ≡ known_log_of group (s ∷ older)
     open-same mark e =
-        ap (λ o. known_by o (exchange_in (upto mark (s.heard ++ more)))) e
-        ∙ sym (ap (λ o. known_by o (exchange_in (upto s.mark s.heard))) (prefix-none group s.members s.heard more e))
+        ap (λ o. known_by o (exchange_in (messages_upto mark (s.heard ++ more)))) e
+        ∙ sym (ap (λ o. known_by o (exchange_in (messages_upto s.mark s.heard))) (prefix-none group s.members s.heard more e))
 
-    module _ (same : upto s.mark (s.heard ++ more) ≡ upto s.mark s.heard) (frozen : IsFrozen group (s ∷ older)) where
+    module _ (same : messages_upto s.mark (s.heard ++ more) ≡ messages_upto s.mark s.heard) (frozen : IsFrozen group (s ∷ older)) where
       abbrev now : KnownLog A
       now = known_log_of group (record s { heard = s.heard ++ more } ∷ older)
 
@@ -136,31 +136,31 @@ module _ {A : Type 0} (group : Group) (s : Epoch A) (older : List (Epoch A)) whe
           (guarded_some (is_primary group s.members)
           (complete_exchange_from (exchange_opening s.members) (s.heard ++ more)) w is).0 in
           let none : s.trimmed ≡ 0 = frozen (ap (λ b. not b || is_some (exchange_in s.heard)) primary ∙ ap is_some was) in
-          let safe : exchange_in (upto s.mark (s.heard ++ more)) ≡ None = ap exchange_in same ∙ safe-none in
-          let k : known_by None (exchange_in (upto s.mark s.heard)) ≡ known_log_of group (s ∷ older) =
-          sym (ap (λ o. known_by o (exchange_in (upto s.mark s.heard))) was) in
+          let safe : exchange_in (messages_upto s.mark (s.heard ++ more)) ≡ None = ap exchange_in same ∙ safe-none in
+          let k : known_by None (exchange_in (messages_upto s.mark s.heard)) ≡ known_log_of group (s ∷ older) =
+          sym (ap (λ o. known_by o (exchange_in (messages_upto s.mark s.heard))) was) in
           let n : known_by (Some w) None ≡ now =
-          sym (ap (λ o. known_by o (exchange_in (upto s.mark (s.heard ++ more)))) is ∙ ap (known_by (Some w)) safe) in
+          sym (ap (λ o. known_by o (exchange_in (messages_upto s.mark (s.heard ++ more)))) is ∙ ap (known_by (Some w)) safe) in
           subst (λ (x : KnownLog A). IsQuiet x now) k
-          (subst (λ (x : KnownLog A). IsQuiet (known_by None (exchange_in (upto s.mark s.heard))) x) n
+          (subst (λ (x : KnownLog A). IsQuiet (known_by None (exchange_in (messages_upto s.mark s.heard))) x) n
           (elim (adopts-quiet before s.ring w) as (λ _. IsQuiet (dropped_by s.trimmed before) (known_by (Some w) None)) [
             | inl q ↦ (let c = q.0 in let t = q.1 in inl (omega (arith, c), ap (max s.trimmed) t))
             | inr q ↦ inr (omega (arith, q, none))
           ]))
         where
-          safe-none : exchange_in (upto s.mark s.heard) ≡ None
+          safe-none : exchange_in (messages_upto s.mark s.heard) ≡ None
           safe-none =
               let f = upto-front s.mark s.heard in
-              prefix-none group s.members (upto s.mark s.heard) f.0 (ap exchange_in f.1 ∙ was)
+              prefix-none group s.members (messages_upto s.mark s.heard) f.0 (ap exchange_in f.1 ∙ was)
 
       -- it was complete before
       stays-quiet : (w : CompleteExchange A) → exchange_in s.heard ≡ Some w → IsQuiet (known_log_of group (s ∷ older)) now
       stays-quiet w was =
           let is = complete_exchange-front group s.members s.heard (s.heard ++ more) w was (more, refl) in
-          let safe = exchange_in (upto s.mark s.heard) in
+          let safe = exchange_in (messages_upto s.mark s.heard) in
           let k : known_log_of group (s ∷ older) ≡ known_by (Some w) safe = ap (λ o. known_by o safe) was in
           let n : now ≡ known_by (Some (grown w more)) safe =
-          ap (λ o. known_by o (exchange_in (upto s.mark (s.heard ++ more)))) is
+          ap (λ o. known_by o (exchange_in (messages_upto s.mark (s.heard ++ more)))) is
           ∙ ap (λ xs. known_by (Some (grown w more)) (exchange_in xs)) same in
           let base = adopts-grown before s.ring w more in
           inl (
@@ -187,7 +187,7 @@ entered-quiet : {A : Type 0} (group : Group) (k : KnownLog A) (n : Epoch A) (epo
 entered-quiet {A} group k n epochs none e q =
     let last = known_log_of group epochs in
     let is : dropped_by n.trimmed last ≡ known_log_of group (n ∷ epochs) =
-    sym (ap (λ o. dropped_by n.trimmed (kept_by n.ring last o (complete_exchange group n.members (upto n.mark n.heard)))) e) in
+    sym (ap (λ o. dropped_by n.trimmed (known_log_after_epoch n.ring last o (complete_exchange group n.members (messages_upto n.mark n.heard)))) e) in
     subst (λ (x : KnownLog A). IsQuiet k x) is
     (elim q as (λ _. IsQuiet k (dropped_by n.trimmed last)) [
       | inl p ↦ (let t = p.1 in inl (p.0, omega (arith, none, t)))
@@ -211,7 +211,7 @@ record IsGrown {A : Type 0} (s : Epoch A) (older epochs : List (Epoch A)) : Type
 
 module _ {A : Type 0} (d : Core A) (ring : RingId) (f below : ℕ) (s : Epoch A) (older : List (Epoch A)) where
   abbrev new : List (Message A)
-  new = users d ring f (front d ring)
+  new = user_messages_between d ring f (front d ring)
 
   safe-through : epochs_after (s ∷ older) (delivered_from d ring f below)
       ≡ epochs_after (record s { heard = s.heard ++ new } ∷ older) (safe_from d ring below)
@@ -241,16 +241,16 @@ sent-through : {A : Type 0} (sends : List (OutgoingFrame A)) (outs : List (Out A
 sent-through {A} sends outs epochs =
     through-append epochs (sent sends) outs
     ∙ ap (λ (l : List (Epoch A)). epochs_after l outs)
-    (silent_through (λ (x : OutgoingFrame A). SendOut x.to x.frame) (λ x l. refl) (addressed sends) epochs)
+    (silent_through (λ (x : OutgoingFrame A). SendOut x.to x.frame) (λ x l. refl) (sends_with_receivers sends) epochs)
 
 installed-through : {A : Type 0} (d : Core A) (epochs : List (Epoch A)) →
     epochs_after epochs (installation_outputs d)
     ≡ epochs_after (epoch_opening d.running.ring d.running.members ∷ epochs) (delivered_from d d.running.ring 0 0)
 installed-through {A} d epochs =
     let last : List (Out A) = RegularOut d.running.ring d.running.members ∷ delivered_from d d.running.ring 0 0 in
-    through-append epochs (map (λ (x : Message A). RestOut x.ring x.number x) (rests (plan d) d.held)) last
+    through-append epochs (map (λ (x : Message A). RestOut x.ring x.number x) (rest_messages (plan d) d.held)) last
     ∙ ap (λ (l : List (Epoch A)). epochs_after l last)
-    (silent_through (λ (x : Message A). RestOut x.ring x.number x) (λ x l. refl) (rests (plan d) d.held) epochs)
+    (silent_through (λ (x : Message A). RestOut x.ring x.number x) (λ x l. refl) (rest_messages (plan d) d.held) epochs)
 
 -- A step
 
@@ -261,32 +261,32 @@ module _ {A : Type 0} (group : Group) (s : Epoch A) (older : List (Epoch A)) (fr
   known = known_log_of group (s ∷ older)
 
   settled-quiet : (b : Bool) → (b ≡ true → mark d c.installed.ring ≡ mark c c.installed.ring) →
-      is_closed group (epochs_after (s ∷ older) (settle b d (sent sends ++ given c d)).outs) ≡ false →
-      IsQuiet known (known_log_of group (epochs_after (s ∷ older) (settle b d (sent sends ++ given c d)).outs))
+      is_closed group (epochs_after (s ∷ older) (with_installation_if b d (sent sends ++ agreed_and_safe_of_step c d)).outs) ≡ false →
+      IsQuiet known (known_log_of group (epochs_after (s ∷ older) (with_installation_if b d (sent sends ++ agreed_and_safe_of_step c d)).outs))
   settled-quiet false kept unclosed =
       let r = c.installed.ring in
       let g = delivered-grown d r (front c r) (mark c r) s older in
-      let is = sent-through sends (given c d) (s ∷ older) ∙ g.is in
+      let is = sent-through sends (agreed_and_safe_of_step c d) (s ∷ older) ∙ g.is in
       let none = open-none (is_primary group s.members) (complete_exchange group s.members (s.heard ++ g.more))
       (subst (λ (l : List (Epoch A)). is_closed group l ≡ false) is unclosed) in
       let same = ap (known_log_of group) is ∙ open-same group s older g.more g.mark none in
       inl (ap (λ (x : KnownLog A). x.committed) same, ap (λ (x : KnownLog A). x.trimmed) same)
   settled-quiet true kept unclosed =
       let r = c.installed.ring in
-      let first = users d r (front c r) (front d r) in
+      let first = user_messages_between d r (front c r) (front d r) in
       let t : Epoch A = record s { heard = s.heard ++ first } in
-      let left : epochs_after (s ∷ older) (sent sends ++ given c d) ≡ t ∷ older =
-      sent-through sends (given c d) (s ∷ older) ∙ delivered-same d r (front c r) (mark c r) s older (kept refl) in
+      let left : epochs_after (s ∷ older) (sent sends ++ agreed_and_safe_of_step c d) ≡ t ∷ older =
+      sent-through sends (agreed_and_safe_of_step c d) (s ∷ older) ∙ delivered-same d r (front c r) (mark c r) s older (kept refl) in
       let opened = epoch_opening d.running.ring d.running.members in
       let g = delivered-grown d d.running.ring 0 0 opened (t ∷ older) in
-      let is = through-append (s ∷ older) (sent sends ++ given c d) (installation_outputs d)
+      let is = through-append (s ∷ older) (sent sends ++ agreed_and_safe_of_step c d) (installation_outputs d)
       ∙ ap (λ (l : List (Epoch A)). epochs_after l (installation_outputs d)) left
       ∙ installed-through d (t ∷ older) ∙ g.is in
       let n : Epoch A = record opened { heard = [] ++ g.more; mark = g.mark } in
       let none = open-none (is_primary group n.members) (complete_exchange group n.members n.heard)
       (subst (λ (l : List (Epoch A)). is_closed group l ≡ false) is unclosed) in
       let same = upto-same s.mark (front c r) s.heard first (omega (arith, covered, marked))
-      (users-above d r (front c r) (front d r)) in
+      (user_messages_between-above d r (front c r) (front d r)) in
       subst (λ (l : List (Epoch A)). IsQuiet known (known_log_of group l)) (sym is)
       (entered-quiet group known n (t ∷ older) refl none (grown-quiet group s older first same frozen))
 
@@ -297,6 +297,6 @@ pub step-quiet : {A : Type 0} (group : Group) (s : Epoch A) (older : List (Epoch
     IsQuiet (known_log_of group (s ∷ older)) (known_log_of group (epochs_after (s ∷ older) (ring_step c input).outs))
 unfolding ring_step
 step-quiet group s older c input proc rings facts covered marked frozen =
-    let d = done c (decide c input) in
+    let d = transition_and_proposal c (decide c input) in
     settled-quiet group s older frozen c d.core d.sends covered marked (may_install d.core)
     (install_marks c input proc rings facts)

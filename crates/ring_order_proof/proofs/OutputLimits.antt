@@ -8,11 +8,11 @@ use Rattle.ring_base.specs.Numbers.{numbers_from}
 use Rattle.ring_base.specs.declared.ring_id.RingId.{RingId}
 use Rattle.ring_base.proofs.Each.{each-filter, each-filter_map}
 use Rattle.ring_wire.specs.Rings.{RingFits}
-use Rattle.ring_payload.specs.Kinds.{is_user}
+use Rattle.ring_payload.specs.PayloadKinds.{is_user}
 use Rattle.ring_wire.specs.Messages.{MessageFits}
 use Rattle.ring_wire.specs.declared.message.Message.{Message}
 use Rattle.ring_core_spec.specs.Windows.{found}
-use Rattle.ring_core_spec.specs.Recoveries.{rests}
+use Rattle.ring_core_spec.specs.Recoveries.{rest_messages}
 use Rattle.ring_core_spec.proofs.Tokens.{safe_mark-turn, safe_mark-raise}
 use Rattle.ring_core_spec.specs.Commits.{Configuration}
 use Rattle.ring_core_spec.specs.declared.input.Input.{Input}
@@ -23,8 +23,8 @@ use Rattle.ring_core_spec.specs.Joining.{proposes}
 use Rattle.ring_core_spec.specs.Views.{front, mark, plan}
 use Rattle.ring_core_spec.specs.Deciding.{Transition, Ignore, Enqueue, Repeat, Announce, Invite, GiveUp, EnterGather, Agree, MergeJoin}
 use Rattle.ring_core_spec.specs.Deciding.{EnterGatherAndAgree, EnterGatherAndMergeJoin, Take, Visit, Fill, Learn, decide}
-use Rattle.ring_core_spec.specs.Transitions.{apply_transition, may_propose_after, done}
-use Rattle.ring_core_spec.specs.Giving.{may_install, addressed, sent, users, agreed_from, safe_from, delivered_from, given, installation_outputs, settle}
+use Rattle.ring_core_spec.specs.Transitions.{apply_transition, may_propose_after, transition_and_proposal}
+use Rattle.ring_core_spec.specs.Giving.{may_install, sends_with_receivers, sent, user_messages_between, agreed_from, safe_from, delivered_from, agreed_and_safe_of_step, installation_outputs, with_installation_if}
 use Rattle.ring_core_spec.specs.Stepping.{ring_step}
 use Rattle.ring_core_proof.proofs.InLists.{in-each, each-in}
 use Rattle.ring_core_proof.proofs.WrapsAndEnd.{found_in}
@@ -75,7 +75,7 @@ module _ {A : Type 0} (c : Core A) (f : CoreFits c) where
       let fits : MessageFits x = in-each MessageFits x c.held f.held there.0 in
       record { message = fits; counted = subst (λ (r : RingId). 1 ≤ r.seq) there.1 fits.ring_counted }
 
-  users_fit : (ring : RingId) (below upto : ℕ) → Each (HeardFits ring.seq) (users c ring below upto)
+  users_fit : (ring : RingId) (below upto : ℕ) → Each (HeardFits ring.seq) (user_messages_between c ring below upto)
   users_fit ring below upto =
       let numbers = numbers_from (below + 1) (upto - below) in
       each-filter (HeardFits ring.seq) (λ (x : Message A). is_user x.payload) (filter_map (found c.held ring) numbers)
@@ -90,14 +90,14 @@ module _ {A : Type 0} (c : Core A) (f : CoreFits c) where
   tells_from : (ring : RingId) (before m : ℕ) → m ≤ mark c ring → Tells ring.seq m ring.seq (mark c ring) (delivered_from c ring before m)
   tells_from ring before m le =
       tells-append ring.seq m ring.seq m ring.seq (mark c ring) (agreed_from c ring before) (safe_from c ring m)
-      (tells_agreed ring.seq m ring (users c ring before (front c ring)) (users_fit ring before (front c ring)))
+      (tells_agreed ring.seq m ring (user_messages_between c ring before (front c ring)) (users_fit ring before (front c ring)))
       (tells_safe ring.seq ring m le)
 
   tells_configured : (n low : ℕ) → Tells n low c.running.ring.seq (mark c c.running.ring) (installation_outputs c)
   tells_configured n low =
-      tells-append n low n low c.running.ring.seq (mark c c.running.ring) (map (λ (x : Message A). Rest x.ring x.number x) (rests (plan c) c.held))
+      tells-append n low n low c.running.ring.seq (mark c c.running.ring) (map (λ (x : Message A). Rest x.ring x.number x) (rest_messages (plan c) c.held))
       (Regular c.running.ring c.running.members ∷ delivered_from c c.running.ring 0 0)
-      (tells_rest n low (rests (plan c) c.held))
+      (tells_rest n low (rest_messages (plan c) c.held))
       ((f.running).ring, tells_from c.running.ring 0 0 (omega arith))
 
 -- No act lowers a safe mark
@@ -119,7 +119,7 @@ act_marks c (Visit t) ring = safe_mark-turn _ c.turns c.raises ring
 act_marks c (Fill k) ring = omega arith
 act_marks c (Learn k) ring = safe_mark-raise _ c.turns c.raises ring
 
-done_marks : {A : Type 0} → (c : Core A) (a : Transition A) (ring : RingId) → mark c ring ≤ mark (done c a).core ring
+done_marks : {A : Type 0} → (c : Core A) (a : Transition A) (ring : RingId) → mark c ring ≤ mark (transition_and_proposal c a).core ring
 done_marks c a ring =
     let same = proposed_marks (may_propose_after a && proposes (apply_transition c a).core) (apply_transition c a) ring in
     let rises = act_marks c a ring in
@@ -129,23 +129,23 @@ done_marks c a ring =
 
 module _ {A : Type 0} (old c : Core A) (sends : List (OutgoingFrame A)) (f : CoreFits c) where
   told_before : mark old old.installed.ring ≤ mark c old.installed.ring →
-      Tells old.installed.ring.seq (mark old old.installed.ring) old.installed.ring.seq (mark c old.installed.ring) (sent sends ++ given old c)
+      Tells old.installed.ring.seq (mark old old.installed.ring) old.installed.ring.seq (mark c old.installed.ring) (sent sends ++ agreed_and_safe_of_step old c)
   told_before le =
       let n = old.installed.ring.seq in
       let low = mark old old.installed.ring in
-      tells-append n low n low n (mark c old.installed.ring) (sent sends) (given old c) (tells_sent n low (addressed sends))
+      tells-append n low n low n (mark c old.installed.ring) (sent sends) (agreed_and_safe_of_step old c) (tells_sent n low (sends_with_receivers sends))
       (tells_from c f old.installed.ring (front old old.installed.ring) low le)
 
   tells_settled : (b : Bool) → c.installed ≡ old.installed → mark old old.installed.ring ≤ mark c old.installed.ring →
-      let after = settle b c (sent sends ++ given old c) in
+      let after = with_installation_if b c (sent sends ++ agreed_and_safe_of_step old c) in
       Tells old.installed.ring.seq (mark old old.installed.ring) after.core.installed.ring.seq (mark after.core after.core.installed.ring) after.outs
   tells_settled false e le =
-      subst (λ (x : Configuration). Tells old.installed.ring.seq (mark old old.installed.ring) x.ring.seq (mark c x.ring) (sent sends ++ given old c))
+      subst (λ (x : Configuration). Tells old.installed.ring.seq (mark old old.installed.ring) x.ring.seq (mark c x.ring) (sent sends ++ agreed_and_safe_of_step old c))
       (sym e) (told_before le)
   tells_settled true e le =
       let n = old.installed.ring.seq in
       let mid = mark c old.installed.ring in
-      tells-append n (mark old old.installed.ring) n mid c.running.ring.seq (mark c c.running.ring) (sent sends ++ given old c) (installation_outputs c)
+      tells-append n (mark old old.installed.ring) n mid c.running.ring.seq (mark c c.running.ring) (sent sends ++ agreed_and_safe_of_step old c) (installation_outputs c)
       (told_before le) (tells_configured c f n mid)
 
 pub step_tells : {A : Type 0} → (c : Core A) (input : Input A) → CoreFits c → InputFits input →
@@ -153,6 +153,6 @@ pub step_tells : {A : Type 0} → (c : Core A) (input : Input A) → CoreFits c 
     Tells c.installed.ring.seq (mark c c.installed.ring) after.core.installed.ring.seq (mark after.core after.core.installed.ring) after.outs
 unfolding ring_step
 step_tells c input f w =
-    let d = done c (decide c input) in
+    let d = transition_and_proposal c (decide c input) in
     tells_settled c d.core d.sends ((done_fits c input f w).core) (may_install d.core) (done_installed c (decide c input))
     (done_marks c (decide c input) c.installed.ring)

@@ -12,14 +12,14 @@ use Rattle.ring_core_spec.specs.declared.input.Input.TheVariants.{Frame as Frame
 use Rattle.ring_core_spec.specs.declared.out.Out.{Out}
 use Rattle.ring_core_spec.specs.State.{StepResult}
 use Rattle.ring_core_spec.specs.Stepping.{ring_step}
-use Rattle.ring_session.specs.Tickets.{TicketCall, place_of, unanswered}
+use Rattle.ring_session.specs.Tickets.{TicketCall, answering_place, unanswered_tickets}
 use Rattle.ring_node_spec.specs.declared.input.Input.{Input as NodeInput}
 use Rattle.ring_node_spec.specs.declared.input.Input.TheVariants.{Frame as NodeFrame, Noise as NodeNoise, Timeout as NodeTime, Stop as NodeStop}
 use Rattle.ring_node_spec.specs.EpochHistories.{epochs_after}
 use Rattle.ring_node_spec.specs.Nodes.{Node, node_known_log, node_pending, is_stopped, is_closed, is_restored}
-use Rattle.ring_node_spec.specs.DueSends.{due_by}
+use Rattle.ring_node_spec.specs.DueSends.{due_of_outputs}
 use Rattle.ring_node_spec.specs.Stepping.{NodeStepResult, with_dropped, newly_committed, drops, table_since, did, settled, node_after_outputs, after_core, node_step}
-use Rattle.ring_node_spec.specs.Stepping.{submit_fault, submitted}
+use Rattle.ring_node_spec.specs.Stepping.{submit_fault, node_after_submit}
 use Rattle.ring_node_spec.specs.declared.event.Event.{Event}
 use Rattle.ring_node_spec.specs.Worlds.{world_opening, run}
 use Rattle.ring_order_proof.proofs.KeptByNodes.{all_have}
@@ -36,11 +36,11 @@ waiting_if false t xs ys l = l
 
 -- one more ticket
 waiting_push : {A : Type 0} → (done : List (Call A)) (ts : List (TicketCall A)) (t : TicketCall A) →
-    length (unanswered done (ts ++ t ∷ [])) ≤ suc (length (unanswered done ts))
+    length (unanswered_tickets done (ts ++ t ∷ [])) ≤ suc (length (unanswered_tickets done ts))
 waiting_push {A} done [] t =
-    cond_both (is_none (place_of done t)) (t ∷ []) [] (λ (xs : List (TicketCall A)). length xs ≤ 1) (λ e. omega arith) (λ e. omega arith)
+    cond_both (is_none (answering_place done t)) (t ∷ []) [] (λ (xs : List (TicketCall A)). length xs ≤ 1) (λ e. omega arith) (λ e. omega arith)
 waiting_push done (u ∷ ts) t =
-    waiting_if (is_none (place_of done u)) u (unanswered done (ts ++ t ∷ [])) (unanswered done ts) (waiting_push done ts t)
+    waiting_if (is_none (answering_place done u)) u (unanswered_tickets done (ts ++ t ∷ [])) (unanswered_tickets done ts) (waiting_push done ts t)
 
 -- A node
 
@@ -63,7 +63,7 @@ not_refused n e = by_state (is_stopped n.core.state) e
     by_state true h = absurd (let x : ⊥ = cc in x)
     by_state false h = by_given (nat_le 64 (length (node_pending n))) refl h
 
-submitted_few : {A : Type 0} → (n : Node A) (c : Call A) → submit_fault n ≡ None → HasFew (submitted n c)
+submitted_few : {A : Type 0} → (n : Node A) (c : Call A) → submit_fault n ≡ None → HasFew (node_after_submit n c)
 submitted_few {A} n c e =
     let t : TicketCall A = record { call = c; since = length n.done } in
     let l = not_refused n e in
@@ -78,7 +78,7 @@ module _ {O A : Type 0} (object : Sequential O) where
       let more = newly_committed (node_known_log n) k in
       let s = did object n new outs k more in
       let less = few_more object (table_since object (node_known_log n) k) n.tickets n.done more in
-      let few : HasFew s.node = omega (arith, less, f, ap (λ ts. length (unanswered (n.done ++ more) ts)) same) in
+      let few : HasFew s.node = omega (arith, less, f, ap (λ ts. length (unanswered_tickets (n.done ++ more) ts)) same) in
       cond_both (drops object (is_closed n.group new.epochs) k)
       (record s { node = with_dropped k.committed s.node; dropped = committed_calls (retained_log k) }) s
       (λ (x : NodeStepResult A). HasFew x.node) (λ t. few) (λ e. few)
@@ -87,7 +87,7 @@ module _ {O A : Type 0} (object : Sequential O) where
   after_few n s f =
       let epochs = epochs_after n.epochs s.outs in
       settled_few (is_known_log_sound n.group epochs && is_restored object (known_log_of n.group epochs)) n
-      (node_after_outputs n s.core epochs (due_by object n s.core n.epochs s.outs)) s.outs (known_log_of n.group epochs) refl f
+      (node_after_outputs n s.core epochs (due_of_outputs object n s.core n.epochs s.outs)) s.outs (known_log_of n.group epochs) refl f
 
   stepped_few : (n : Node A) (input : NodeInput A) → HasFew n → HasFew (node_step object n input).node
   stepped_few n (NodeFrame frame) f = after_few n (ring_step n.core (FrameInput frame)) f

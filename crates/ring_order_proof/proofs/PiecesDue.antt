@@ -26,25 +26,25 @@ use Rattle.ring_core_spec.specs.declared.out.Out.TheVariants.{Send as SendOut, A
 use Rattle.ring_core_spec.specs.State.{Core, OutgoingFrame}
 use Rattle.ring_core_spec.specs.Views.{front, mark, plan}
 use Rattle.ring_core_spec.specs.Deciding.{decide}
-use Rattle.ring_core_spec.specs.Transitions.{done}
-use Rattle.ring_core_spec.specs.Giving.{may_install, install, addressed, sent, users, agreed_from, safe_from, delivered_from, given, settle}
+use Rattle.ring_core_spec.specs.Transitions.{transition_and_proposal}
+use Rattle.ring_core_spec.specs.Giving.{may_install, install, sends_with_receivers, sent, user_messages_between, agreed_from, safe_from, delivered_from, agreed_and_safe_of_step, with_installation_if}
 use Rattle.ring_core_spec.specs.Stepping.{ring_step}
 use Rattle.ring_core_spec.proofs.States.{installs_recovering}
-use Rattle.ring_core_spec.specs.Recoveries.{rests}
+use Rattle.ring_core_spec.specs.Recoveries.{rest_messages}
 use Rattle.ring_log.specs.declared.wanted.Wanted.{Wanted}
 use Rattle.ring_log.specs.Exchanges.{Exchange, exchange_opening, wanted, heard, is_exchange_complete}
 use Rattle.ring_log.specs.Parts.{nth_piece, pieces_of, parts_between}
 use Rattle.ring_log.specs.Epochs.{Epoch, epoch_opening, epochs_with_message, epochs_with_sends, epochs_with_trim}
-use Rattle.ring_log.specs.EpochHistories.{CompleteExchange, after_all, complete_exchange, upto}
+use Rattle.ring_log.specs.EpochHistories.{CompleteExchange, exchange_after_messages, complete_exchange, messages_upto}
 use Rattle.ring_log.specs.Logs.{Log}
-use Rattle.ring_log.specs.KnownLog.{KnownLog, kept_by, dropped_by, known_log_of, retained_log, known_log_head}
+use Rattle.ring_log.specs.KnownLog.{KnownLog, known_log_after_epoch, dropped_by, known_log_of, retained_log, known_log_head}
 use Rattle.ring_log_proof.proofs.CompleteExchanges.{complete_exchange-front}
 use Rattle.ring_session.specs.Tickets.{TicketCall}
-use Rattle.ring_node_spec.specs.DueSends.{has_all_heads, parts_due, snaps_due, is_snapshot_kept, places_due, owner_due, calls_due, places_past, due_when_complete}
-use Rattle.ring_node_spec.specs.DueSends.{contains_call, owner_due_on_heads, due_at_regular, due_between, due_in_epoch, due_at, due_by}
+use Rattle.ring_node_spec.specs.DueSends.{has_all_heads, parts_due, snaps_due, is_snapshot_kept, places_due, owner_due, calls_due, uncommitted_places, due_when_complete}
+use Rattle.ring_node_spec.specs.DueSends.{contains_call, owner_due_on_heads, due_at_regular, due_between, due_in_epoch, due_at_output, due_of_outputs}
 use Rattle.ring_node_spec.specs.EpochHistories.{epochs_after_event, epochs_after}
 use Rattle.ring_node_spec.proofs.EpochsAfterOutputs.{through-append}
-use Rattle.ring_node_spec.specs.Nodes.{Node, node_known_log, node_pending, snapshot_kept, is_closed, runs}
+use Rattle.ring_node_spec.specs.Nodes.{Node, node_known_log, node_pending, snapshot_kept, is_closed, is_core_running_in}
 use Rattle.ring_synchrony_proof.proofs.Ordered.{Ordered}
 use Rattle.ring_synchrony_proof.proofs.LifeAfterStep.{keeps_done}
 use Rattle.ring_order_proof.proofs.DisciplinedDueSends.{unstated_none}
@@ -103,7 +103,7 @@ kept-open : {A : Type 0} (group : Group) (s : Epoch A) (older : List (Epoch A)) 
 kept-open {A} group s older e zero_is =
     let k = known_log_of group older in
     let most : max s.trimmed k.trimmed ≡ k.trimmed = omega (arith, zero_is) in
-    ap (λ o. dropped_by s.trimmed (kept_by s.ring k o (complete_exchange group s.members (upto s.mark s.heard)))) e ∙ ap (λ n. record k { trimmed = n }) most
+    ap (λ o. dropped_by s.trimmed (known_log_after_epoch s.ring k o (complete_exchange group s.members (messages_upto s.mark s.heard)))) e ∙ ap (λ n. record k { trimmed = n }) most
 
 -- ---- due payloads
 
@@ -162,15 +162,15 @@ module _ {O A : Type 0} (object : Sequential O) (n : Node A) (core : Core A) whe
   whole-pieces : (older epochs : List (Epoch A)) (old new : Exchange A) → Each (P older) (due_when_complete n epochs old new)
   whole-pieces older epochs old new =
       cond_both (is_exchange_complete new && not (is_exchange_complete old))
-      (calls_due (node_pending n) (places_past (node_known_log n).committed (retained_log (known_log_of n.group epochs)))) [] (Each (P older))
+      (calls_due (node_pending n) (uncommitted_places (node_known_log n).committed (retained_log (known_log_of n.group epochs)))) [] (Each (P older))
       (λ t. calls-pieces (snapshot_kept object (known_log_of n.group older)) (node_pending n)
-      (places_past (node_known_log n).committed (retained_log (known_log_of n.group epochs)))) (λ f. tt)
+      (uncommitted_places (node_known_log n).committed (retained_log (known_log_of n.group epochs)))) (λ f. tt)
 
   received_head-pieces : (s : Epoch A) (older : List (Epoch A)) (new : Exchange A) → is_primary n.group s.members ≡ true → IsFrozen n.group (s ∷ older)
-      → Each (P older) (owner_due_on_heads object n (known_log_of n.group (s ∷ older)) (after_all (exchange_opening s.members) s.heard) new)
+      → Each (P older) (owner_due_on_heads object n (known_log_of n.group (s ∷ older)) (exchange_after_messages (exchange_opening s.members) s.heard) new)
   received_head-pieces s older new primary frozen =
       let k = known_log_of n.group (s ∷ older) in
-      let old = after_all (exchange_opening s.members) s.heard in
+      let old = exchange_after_messages (exchange_opening s.members) s.heard in
       let due = owner_due n.core.me (snapshot_kept object k) (retained_log k) (wanted new) in
       cond_both (has_all_heads new && not (has_all_heads old)) due [] (Each (P older))
       (λ t.
@@ -181,13 +181,13 @@ module _ {O A : Type 0} (object : Sequential O) (n : Node A) (core : Core A) whe
       (owner-pieces (snapshot_kept object k) n.core.me (retained_log k) (wanted new)))
       (λ f. tt)
 
-  at-pieces : (s : Epoch A) (older : List (Epoch A)) (o : Out A) → IsSpoken o → IsFrozen n.group (s ∷ older) → Each (P older) (due_at object n core (s ∷ older) o)
+  at-pieces : (s : Epoch A) (older : List (Epoch A)) (o : Out A) → IsSpoken o → IsFrozen n.group (s ∷ older) → Each (P older) (due_at_output object n core (s ∷ older) o)
   at-pieces s older (Regular ring members) k frozen = absurd k
   at-pieces s older (AgreedOut ring number x) k frozen =
       let epochs = epochs_with_message x (s ∷ older) in
-      let old = after_all (exchange_opening s.members) s.heard in
-      let new = after_all (exchange_opening s.members) (s.heard ++ x ∷ []) in
-      cond_both (runs core ring) (due_in_epoch object n s (s ∷ older) x epochs) [] (Each (P older))
+      let old = exchange_after_messages (exchange_opening s.members) s.heard in
+      let new = exchange_after_messages (exchange_opening s.members) (s.heard ++ x ∷ []) in
+      cond_both (is_core_running_in core ring) (due_in_epoch object n s (s ∷ older) x epochs) [] (Each (P older))
       (λ r. cond_both (is_primary n.group s.members) (due_between object n (s ∷ older) epochs old new) [] (Each (P older))
       (λ p. each-append (P older) (owner_due_on_heads object n (known_log_of n.group (s ∷ older)) old new) (due_when_complete n epochs old new)
       (received_head-pieces s older new p frozen) (whole-pieces older epochs old new))
@@ -199,35 +199,35 @@ module _ {O A : Type 0} (object : Sequential O) (n : Node A) (core : Core A) whe
   at-pieces s older (Rest ring number x) k frozen = tt
 
   due-more : (epochs : List (Epoch A)) (xs ys : List (Out A))
-      → due_by object n core epochs (xs ++ ys) ≡ due_by object n core epochs xs ++ due_by object n core (epochs_after epochs xs) ys
+      → due_of_outputs object n core epochs (xs ++ ys) ≡ due_of_outputs object n core epochs xs ++ due_of_outputs object n core (epochs_after epochs xs) ys
   due-more epochs [] ys = refl
   due-more epochs (x ∷ xs) ys =
-      ap (λ zs. due_at object n core epochs x ++ zs) (due-more (epochs_after_event epochs x) xs ys)
-      ∙ sym (append_assoc (due_at object n core epochs x) (due_by object n core (epochs_after_event epochs x) xs) (due_by object n core (epochs_after (epochs_after_event epochs x) xs) ys))
+      ap (λ zs. due_at_output object n core epochs x ++ zs) (due-more (epochs_after_event epochs x) xs ys)
+      ∙ sym (append_assoc (due_at_output object n core epochs x) (due_of_outputs object n core (epochs_after_event epochs x) xs) (due_of_outputs object n core (epochs_after (epochs_after_event epochs x) xs) ys))
 
   -- the life after outputs, and the payloads due there
   pub record Ends (epochs : List (Epoch A)) (outs : List (Out A)) : Type 0 where
     pub epoch : Epoch A
     pub older : List (Epoch A)
     pub is : epochs_after epochs outs ≡ epoch ∷ older
-    pub due : Each (P older) (due_by object n core epochs outs)
+    pub due : Each (P older) (due_of_outputs object n core epochs outs)
 
   -- in one ring
   sent_payloads : (s : Epoch A) (older : List (Epoch A)) (outs : List (Out A)) → Each IsSpoken outs → IsFrozen n.group (s ∷ older)
-      → (t : Epoch A) × (epochs_after (s ∷ older) outs ≡ t ∷ older) × Each (P older) (due_by object n core (s ∷ older) outs)
+      → (t : Epoch A) × (epochs_after (s ∷ older) outs ≡ t ∷ older) × Each (P older) (due_of_outputs object n core (s ∷ older) outs)
   sent_payloads s older [] k frozen = (s, refl, tt)
   sent_payloads s older (o ∷ outs) k frozen =
       let one = epochs_after_event-epoch s older o k.0 in
       let rest = sent_payloads one.0 older outs k.1 (subst (IsFrozen n.group) one.1 (frozen-epochs_after_event n.group (s ∷ older) o frozen)) in (
         rest.0,
         ap (λ l. epochs_after l outs) one.1 ∙ rest.1,
-        each-append (P older) (due_at object n core (s ∷ older) o) (due_by object n core (epochs_after_event (s ∷ older) o) outs) (at-pieces s older o k.0 frozen)
-            (subst (λ (l : List (Epoch A)). Each (P older) (due_by object n core l outs)) (sym one.1) rest.2),
+        each-append (P older) (due_at_output object n core (s ∷ older) o) (due_of_outputs object n core (epochs_after_event (s ∷ older) o) outs) (at-pieces s older o k.0 frozen)
+            (subst (λ (l : List (Epoch A)). Each (P older) (due_of_outputs object n core l outs)) (sym one.1) rest.2),
       )
 
   -- in a ring that doesn't run nothing is due
   abbrev IsSilent : Out A → Type 0
-  IsSilent (AgreedOut ring number x) = runs core ring ≡ false
+  IsSilent (AgreedOut ring number x) = is_core_running_in core ring ≡ false
   IsSilent (Regular ring members) = ⊥
   IsSilent (SafeOut ring upto) = Unit {0}
   IsSilent (SendOut to frame) = Unit {0}
@@ -242,8 +242,8 @@ module _ {O A : Type 0} (object : Sequential O) (n : Node A) (core : Core A) whe
   silent-sent_payloads (Trans old new set) k = tt
   silent-sent_payloads (Rest ring number x) k = tt
 
-  silent-due : (s : Epoch A) (older : List (Epoch A)) (o : Out A) → IsSilent o → due_at object n core (s ∷ older) o ≡ []
-  silent-due s older (AgreedOut ring number x) k = cond-false (runs core ring) (due_in_epoch object n s (s ∷ older) x (epochs_with_message x (s ∷ older))) [] k
+  silent-due : (s : Epoch A) (older : List (Epoch A)) (o : Out A) → IsSilent o → due_at_output object n core (s ∷ older) o ≡ []
+  silent-due s older (AgreedOut ring number x) k = cond-false (is_core_running_in core ring) (due_in_epoch object n s (s ∷ older) x (epochs_with_message x (s ∷ older))) [] k
   silent-due s older (Regular ring members) k = absurd k
   silent-due s older (SafeOut ring upto) k = refl
   silent-due s older (SendOut to frame) k = refl
@@ -251,15 +251,15 @@ module _ {O A : Type 0} (object : Sequential O) (n : Node A) (core : Core A) whe
   silent-due s older (Rest ring number x) k = refl
 
   silent : (s : Epoch A) (older : List (Epoch A)) (outs : List (Out A)) → Each IsSilent outs
-      → (t : Epoch A) × (epochs_after (s ∷ older) outs ≡ t ∷ older) × (due_by object n core (s ∷ older) outs ≡ [])
+      → (t : Epoch A) × (epochs_after (s ∷ older) outs ≡ t ∷ older) × (due_of_outputs object n core (s ∷ older) outs ≡ [])
   silent s older [] k = (s, refl, refl)
   silent s older (o ∷ outs) k =
       let one = epochs_after_event-epoch s older o (silent-sent_payloads o k.0) in
       let rest = silent one.0 older outs k.1 in (
         rest.0,
         ap (λ l. epochs_after l outs) one.1 ∙ rest.1,
-        ap (λ xs. xs ++ due_by object n core (epochs_after_event (s ∷ older) o) outs) (silent-due s older o k.0)
-            ∙ ap (λ l. due_by object n core l outs) one.1 ∙ rest.2,
+        ap (λ xs. xs ++ due_of_outputs object n core (epochs_after_event (s ∷ older) o) outs) (silent-due s older o k.0)
+            ∙ ap (λ l. due_of_outputs object n core l outs) one.1 ∙ rest.2,
       )
 
   installs-end : (s : Epoch A) (older : List (Epoch A)) (xs ys : List (Out A)) (ring : RingId) (members : ℕ) → Each IsSilent xs → Each IsSpoken ys
@@ -271,10 +271,10 @@ module _ {O A : Type 0} (object : Sequential O) (n : Node A) (core : Core A) whe
       let b = sent_payloads new (t ∷ older) ys h (λ f. refl) in
       let more = Regular ring members ∷ ys in
       let first = due_at_regular n.group members (t ∷ older) in
-      let after = due_by object n core (new ∷ t ∷ older) ys in
-      let due : due_by object n core (s ∷ older) (xs ++ more) ≡ first ++ after =
-      due-more (s ∷ older) xs more ∙ ap (λ zs. zs ++ due_by object n core (epochs_after (s ∷ older) xs) more) a.2
-      ∙ ap (λ l. due_by object n core l more) a.1 in
+      let after = due_of_outputs object n core (new ∷ t ∷ older) ys in
+      let due : due_of_outputs object n core (s ∷ older) (xs ++ more) ≡ first ++ after =
+      due-more (s ∷ older) xs more ∙ ap (λ zs. zs ++ due_of_outputs object n core (epochs_after (s ∷ older) xs) more) a.2
+      ∙ ap (λ l. due_of_outputs object n core l more) a.1 in
       let head : Each (P (t ∷ older)) first =
       cond_both (is_primary n.group members) (Head (known_log_head (known_log_of n.group (t ∷ older))) ∷ []) [] (Each (P (t ∷ older))) (λ p. (tt, tt)) (λ p. tt) in
       record {
@@ -292,27 +292,27 @@ module _ {O A : Type 0} (object : Sequential O) (n : Node A) (core : Core A) whe
 delivered-sent_payloads : {A : Type 0} (c : Core A) (ring : RingId) (f m : ℕ) → Each IsSpoken (delivered_from c ring f m)
 delivered-sent_payloads {A} c ring f m =
     each-append IsSpoken (agreed_from c ring f) (safe_from c ring m)
-    (each-mapped IsSpoken (λ (x : Message A). AgreedOut ring x.number x) (λ x. tt) (users c ring f (front c ring)))
+    (each-mapped IsSpoken (λ (x : Message A). AgreedOut ring x.number x) (λ x. tt) (user_messages_between c ring f (front c ring)))
     (cond_both (nat_lt m (mark c ring)) (SafeOut ring (mark c ring) ∷ []) [] (Each IsSpoken) (λ t. (tt, tt)) (λ t. tt))
 
 sent-sent_payloads : {A : Type 0} (sends : List (OutgoingFrame A)) → Each IsSpoken (sent sends)
-sent-sent_payloads {A} sends = each-mapped IsSpoken (λ (x : OutgoingFrame A). SendOut x.to x.frame) (λ x. tt) (addressed sends)
+sent-sent_payloads {A} sends = each-mapped IsSpoken (λ (x : OutgoingFrame A). SendOut x.to x.frame) (λ x. tt) (sends_with_receivers sends)
 
 module _ {O A : Type 0} (object : Sequential O) (n : Node A) where
   abbrev Silent : Core A → Out A → Type 0
   Silent core = IsSilent object n core
 
-  delivered-silent : (core c : Core A) (ring : RingId) (f m : ℕ) → runs core ring ≡ false → Each (Silent core) (delivered_from c ring f m)
+  delivered-silent : (core c : Core A) (ring : RingId) (f m : ℕ) → is_core_running_in core ring ≡ false → Each (Silent core) (delivered_from c ring f m)
   delivered-silent core c ring f m idle =
       each-append (Silent core) (agreed_from c ring f) (safe_from c ring m)
-      (each-mapped (Silent core) (λ (x : Message A). AgreedOut ring x.number x) (λ x. idle) (users c ring f (front c ring)))
+      (each-mapped (Silent core) (λ (x : Message A). AgreedOut ring x.number x) (λ x. idle) (user_messages_between c ring f (front c ring)))
       (cond_both (nat_lt m (mark c ring)) (SafeOut ring (mark c ring) ∷ []) [] (Each (Silent core)) (λ t. (tt, tt)) (λ t. tt))
 
   -- an installed ring differs from the one before
-  never-runs : (d : Core A) (ring : RingId) → d.installed.ring ≡ ring → d.installed.ring.seq < d.running.ring.seq → runs (install d) ring ≡ false
-  never-runs d ring e below = by (runs (install d) ring) refl
+  never-is_core_running_in : (d : Core A) (ring : RingId) → d.installed.ring ≡ ring → d.installed.ring.seq < d.running.ring.seq → is_core_running_in (install d) ring ≡ false
+  never-is_core_running_in d ring e below = by (is_core_running_in (install d) ring) refl
     where
-      by : (b : Bool) → runs (install d) ring ≡ b → b ≡ false
+      by : (b : Bool) → is_core_running_in (install d) ring ≡ b → b ≡ false
       by false t = refl
       by true t =
           let same : d.running.ring ≡ ring = ring_same d.running.ring ring t in
@@ -320,27 +320,27 @@ module _ {O A : Type 0} (object : Sequential O) (n : Node A) where
           let b : d.running.ring.seq ≡ ring.seq = ap (λ (r : RingId). r.seq) same in
           absurd (omega (arith, a, b, below))
 
-  settle-ends : (s : Epoch A) (older : List (Epoch A)) (d : Core A) (sends : List (OutgoingFrame A)) → IsFrozen n.group (s ∷ older) → d.installed ≡ n.core.installed
+  with_installation_if-ends : (s : Epoch A) (older : List (Epoch A)) (d : Core A) (sends : List (OutgoingFrame A)) → IsFrozen n.group (s ∷ older) → d.installed ≡ n.core.installed
       → (b : Bool) → (b ≡ true → d.installed.ring.seq < d.running.ring.seq)
-      → Ends object n (settle b d (sent sends ++ given n.core d)).core (s ∷ older) (settle b d (sent sends ++ given n.core d)).outs
-  settle-ends s older d sends frozen same false below =
+      → Ends object n (with_installation_if b d (sent sends ++ agreed_and_safe_of_step n.core d)).core (s ∷ older) (with_installation_if b d (sent sends ++ agreed_and_safe_of_step n.core d)).outs
+  with_installation_if-ends s older d sends frozen same false below =
       let r = n.core.installed.ring in
-      stays-end object n d s older (sent sends ++ given n.core d)
-      (each-append IsSpoken (sent sends) (given n.core d) (sent-sent_payloads sends) (delivered-sent_payloads d r (front n.core r) (mark n.core r))) frozen
-  settle-ends s older d sends frozen same true below =
+      stays-end object n d s older (sent sends ++ agreed_and_safe_of_step n.core d)
+      (each-append IsSpoken (sent sends) (agreed_and_safe_of_step n.core d) (sent-sent_payloads sends) (delivered-sent_payloads d r (front n.core r) (mark n.core r))) frozen
+  with_installation_if-ends s older d sends frozen same true below =
       let r = n.core.installed.ring in
       let core = install d in
-      let idle = never-runs d r (ap (λ (x : Configuration). x.ring) same) (below refl) in
-      let first = sent sends ++ given n.core d in
-      let rest = Trans d.installed.ring d.running.ring (plan d).transitional_members ∷ map (λ (x : Message A). Rest x.ring x.number x) (rests (plan d) d.held) in
+      let idle = never-is_core_running_in d r (ap (λ (x : Configuration). x.ring) same) (below refl) in
+      let first = sent sends ++ agreed_and_safe_of_step n.core d in
+      let rest = Trans d.installed.ring d.running.ring (plan d).transitional_members ∷ map (λ (x : Message A). Rest x.ring x.number x) (rest_messages (plan d) d.held) in
       let ys = delivered_from d d.running.ring 0 0 in
       let more = Regular d.running.ring d.running.members ∷ ys in
       let quiet_first : Each (Silent core) first =
-      each-append (Silent core) (sent sends) (given n.core d)
-      (each-mapped (Silent core) (λ (x : OutgoingFrame A). SendOut x.to x.frame) (λ x. tt) (addressed sends))
+      each-append (Silent core) (sent sends) (agreed_and_safe_of_step n.core d)
+      (each-mapped (Silent core) (λ (x : OutgoingFrame A). SendOut x.to x.frame) (λ x. tt) (sends_with_receivers sends))
       (delivered-silent core d r (front n.core r) (mark n.core r) idle) in
       let quiet_rest : Each (Silent core) rest =
-      (tt, each-mapped (Silent core) (λ (x : Message A). Rest x.ring x.number x) (λ x. tt) (rests (plan d) d.held)) in
+      (tt, each-mapped (Silent core) (λ (x : Message A). Rest x.ring x.number x) (λ x. tt) (rest_messages (plan d) d.held)) in
       subst (Ends object n core (s ∷ older)) (append_assoc first rest more)
       (installs-end object n core s older (first ++ rest) ys d.running.ring d.running.members
       (each-append (Silent core) first rest quiet_first quiet_rest) (delivered-sent_payloads d d.running.ring 0 0))
@@ -349,7 +349,7 @@ module _ {O A : Type 0} (object : Sequential O) (n : Node A) where
       → Ends object n (ring_step n.core input).core (s ∷ older) (ring_step n.core input).outs
   unfolding ring_step
   core-ends s older input o frozen =
-      let d = done n.core (decide n.core input) in
+      let d = transition_and_proposal n.core (decide n.core input) in
       let k = keeps_done n.core input o in
-      settle-ends s older d.core d.sends frozen k.keeps.installed (may_install d.core)
+      with_installation_if-ends s older d.core d.sends frozen k.keeps.installed (may_install d.core)
       (λ e. k.ordered.apart (inr (installs_recovering d.core.state d.core e)))

@@ -11,16 +11,16 @@ use Rattle.ring_core_spec.specs.declared.input.Input.TheVariants.{Frame as Frame
 use Rattle.ring_core_spec.specs.declared.out.Out.{Out}
 use Rattle.ring_core_spec.specs.State.{Transmission, frame_at}
 use Rattle.ring_node_spec.specs.declared.input.Input.TheVariants.{Frame as NodeFrame, Timeout as NodeTime}
-use Rattle.ring_node_spec.specs.Stepping.{due_by_submit, submit_fault, submitted}
+use Rattle.ring_node_spec.specs.Stepping.{due_by_submit, submit_fault, node_after_submit}
 use Rattle.ring_node_spec.specs.declared.event.Event.{Event}
 use Rattle.ring_node_spec.specs.declared.event.Event.TheVariants.{Issue, Deliver, Noise, Timeout, Stop}
-use Rattle.ring_node_spec.specs.Worlds.{World, world_opening, is_node as is_world_node, issued_or, issued_if}
-use Rattle.ring_node_spec.specs.Worlds.{stopped_if as node_stopped_if}
-use Rattle.ring_node_spec.specs.Worlds.{stepped_if as node_stepped_if, handed_if as node_handed_if, handed as node_handed}
-use Rattle.ring_node_spec.specs.Worlds.{happens as node_happens, run as node_run}
+use Rattle.ring_node_spec.specs.Worlds.{World, world_opening, is_node as is_world_node, world_after_submit, world_after_submit_if_member}
+use Rattle.ring_node_spec.specs.Worlds.{world_after_stop_if_member as node_stopped_if}
+use Rattle.ring_node_spec.specs.Worlds.{world_after_input_if_member as node_stepped_if, world_after_receipt_if_sent as node_handed_if, world_after_delivery as node_handed}
+use Rattle.ring_node_spec.specs.Worlds.{world_after_event as node_happens, run as node_run}
 use Rattle.ring_core_proof.specs.declared.event.RingEvent.{RingEvent}
 use Rattle.ring_core_proof.specs.declared.event.RingEvent.TheVariants.{Deliver as RingDeliver, Timeout as RingTimeout}
-use Rattle.ring_core_proof.specs.Worlds.{put, stepped_if, handed_if, handed, run}
+use Rattle.ring_core_proof.specs.Worlds.{with_core, stepped_if, handed_if, handed, run}
 use Rattle.ring_core_proof.proofs.Lifting.{cores-append}
 use Rattle.ring_order_proof.specs.Projection.{ring_part, IsRingRun, CoreEvents, core_events_if, core_events_of_delivery_if, core_events_of_delivery, core_events_of_submit, core_events_of_submit_if}
 use Rattle.ring_order_proof.specs.Projection.{core_events_of_stop_if, core_events, core_events_joined, core_events_of_run, IsProjected}
@@ -29,26 +29,26 @@ use Rattle.ring_order_proof.proofs.ProjectedSteps.{cores_of, hands_unsent, IsOve
 
 module _ {O A : Type 0} (object : Sequential O) (w : World A) (outs : List (ℕ × Out A)) (over : IsOver w outs) where
   -- a submit: the due payload is handed over
-  takes : (i : ℕ) (c : OneCall A) → is_world_node w i ≡ true → (fault : Option Fault) → Leads w outs (core_events_of_submit fault w i c) (issued_or fault w i c)
+  takes : (i : ℕ) (c : OneCall A) → is_world_node w i ≡ true → (fault : Option Fault) → Leads w outs (core_events_of_submit fault w i c) (world_after_submit fault w i c)
   takes i c m (Some fault) =
       let same = stays w outs over in
       record { part = same.part; over = record { node_epochs = (same.over).node_epochs; settled = (same.over).settled } }
   takes i c m None =
       let n = w.nodes i in
       let due = due_by_submit n c in
-      let new = submitted n c in
-      let after : World A = issued_or None w i c in
+      let new = node_after_submit n c in
+      let after : World A = world_after_submit None w i c in
       let b : Becomes w outs i new [] after = (refl, refl, sym (append-nil w.frames)) in
       record {
         part =
             run_sends (ring_part w outs) i due m (over.settled i)
-            ∙ ap-both (λ frames more. record { total = w.group.count; cores = put (cores_of w.nodes) i new.core; frames = frames; outs = more })
+            ∙ ap-both (λ frames more. record { total = w.group.count; cores = with_core (cores_of w.nodes) i new.core; frames = frames; outs = more })
             (sym (append-nil w.frames)) (sym (append-nil outs))
             ∙ becomes_part w outs i new [] after b;
         over = becomes_over w outs i new [] after b over (hands_unsent due n.epochs) (handed_is n.core due (over.settled i));
       }
 
-  issues : (i : ℕ) (c : OneCall A) (t : Bool) → is_world_node w i ≡ t → Leads w outs (core_events_of_submit_if t w i c) (issued_if t w i c)
+  issues : (i : ℕ) (c : OneCall A) (t : Bool) → is_world_node w i ≡ t → Leads w outs (core_events_of_submit_if t w i c) (world_after_submit_if_member t w i c)
   issues i c false m = stays w outs over
   issues i c true m = takes i c m (submit_fault (w.nodes i))
 

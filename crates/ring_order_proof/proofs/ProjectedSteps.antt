@@ -17,18 +17,18 @@ use Rattle.ring_core_spec.specs.declared.out.Out.TheVariants.{Send as SendOut, A
 use Rattle.ring_core_spec.specs.State.{Core, StepResult, halted}
 use Rattle.ring_core_spec.specs.Giving.{may_install}
 use Rattle.ring_core_spec.specs.Stepping.{ring_step}
-use Rattle.ring_log.specs.Epochs.{Epoch, epochs_opening, epochs_with_sends, epochs_with_trim}
+use Rattle.ring_log.specs.Epochs.{Epoch, history_opening_of, epochs_with_sends, epochs_with_trim}
 use Rattle.ring_node_spec.specs.declared.input.Input.{Input as NodeInput}
 use Rattle.ring_node_spec.specs.EpochHistories.{epochs_after_event, epochs_after}
 use Rattle.ring_node_spec.specs.Nodes.{Node, node_known_log, node_stopped, is_closed, is_restored}
-use Rattle.ring_node_spec.specs.DueSends.{due_by}
+use Rattle.ring_node_spec.specs.DueSends.{due_of_outputs}
 use Rattle.ring_payload.specs.declared.call.Call.{Call as OneCall}
-use Rattle.ring_session.specs.declared.answered.TicketAnswer.{TicketAnswer}
+use Rattle.ring_session.specs.declared.ticket_answer.TicketAnswer.{TicketAnswer}
 use Rattle.ring_node_spec.specs.Stepping.{handed_over, node_after_outputs, send_of, with_dropped, newly_committed, drops, did, settled, after_core, node_step}
-use Rattle.ring_node_spec.specs.Worlds.{World, put as put_node, is_node as is_world_node, carried_frames, after_step as after_node}
+use Rattle.ring_node_spec.specs.Worlds.{World, with_node as put_node, is_node as is_world_node, carried_frames, after_step as after_node}
 use Rattle.ring_core_proof.specs.declared.event.RingEvent.{RingEvent}
-use Rattle.ring_core_proof.specs.Worlds.{put, transmission_by, after_step, stopped_if, happens, run}
-use Rattle.ring_core_proof.specs.EpochHistories.{output_if_by}
+use Rattle.ring_core_proof.specs.Worlds.{with_core, transmission_by, after_step, stopped_if, world_after_event, run}
+use Rattle.ring_core_proof.specs.Lives.{output_if_by}
 use Rattle.ring_core_proof.proofs.Lifting.{put-put, put-here}
 use Rattle.ring_order_proof.specs.Projection.{ring_part, epochs_as_received, sends_to, by, CoreEvents, no_core_events, core_events_if_sound, core_events_of_step, core_events_of_stop_if}
 use Rattle.ring_core_spec.proofs.Quiet.{stepped_is}
@@ -42,7 +42,7 @@ use Rattle.ring_log.specs.Logs.{committed_calls}
 abbrev pub cores_of : {A : Type 0} → (ℕ → Node A) → ℕ → Core A
 cores_of nodes i = (nodes i).core
 
-pub put_core : {A : Type 0} → (nodes : ℕ → Node A) (i : ℕ) (n : Node A) → put (cores_of nodes) i n.core ≡ cores_of (put_node nodes i n)
+pub put_core : {A : Type 0} → (nodes : ℕ → Node A) (i : ℕ) (n : Node A) → with_core (cores_of nodes) i n.core ≡ cores_of (put_node nodes i n)
 put_core {A} nodes i n = fun_ext (λ j. each (j == i) (nodes j))
   where
     each : (t : Bool) (m : Node A) → cond t n.core m.core ≡ (cond t n m).core
@@ -99,33 +99,33 @@ other_given {A} i j h (o ∷ outs) =
 -- The lives of all nodes consist of their cores' outputs
 
 abbrev pub AreLives : {A : Type 0} → (ℕ → Node A) → List (ℕ × Out A) → Type 0
-AreLives nodes outs = (i : ℕ) → epochs_as_received (nodes i).epochs ≡ epochs_after (epochs_opening i) (filter_map (output_if_by i) outs)
+AreLives nodes outs = (i : ℕ) → epochs_as_received (nodes i).epochs ≡ epochs_after (history_opening_of i) (filter_map (output_if_by i) outs)
 
 -- one node has another life, extended by its core's further outputs
 lives_put : {A : Type 0} → (nodes : ℕ → Node A) (outs : List (ℕ × Out A)) (i : ℕ) (n : Node A) (more : List (Out A)) →
     epochs_as_received n.epochs ≡ epochs_as_received (epochs_after (nodes i).epochs more) → AreLives nodes outs → AreLives (put_node nodes i n) (outs ++ by i more)
 lives_put {A} nodes outs i n more h node_epochs j = elim (eqb_tells j i) [
-  | inl same ↦ subst (λ k. epochs_as_received (put_node nodes i n k).epochs ≡ epochs_after (epochs_opening k) (filter_map (output_if_by k) (outs ++ by i more))) (sym same.1) here
+  | inl same ↦ subst (λ k. epochs_as_received (put_node nodes i n k).epochs ≡ epochs_after (history_opening_of k) (filter_map (output_if_by k) (outs ++ by i more))) (sym same.1) here
   | inr other ↦ there other.0 (away other.1)
 ]
   where
-    here : epochs_as_received (put_node nodes i n i).epochs ≡ epochs_after (epochs_opening i) (filter_map (output_if_by i) (outs ++ by i more))
+    here : epochs_as_received (put_node nodes i n i).epochs ≡ epochs_after (history_opening_of i) (filter_map (output_if_by i) (outs ++ by i more))
     here =
         ap (λ b. epochs_as_received (cond b n (nodes i)).epochs) (eq-eqb i i refl)
         ∙ h
         ∙ through_unsent (nodes i).epochs more
         ∙ ap (λ l. epochs_after l more) (node_epochs i)
-        ∙ sym (through-append (epochs_opening i) (filter_map (output_if_by i) outs) more)
-        ∙ ap (λ xs. epochs_after (epochs_opening i) (filter_map (output_if_by i) outs ++ xs)) (sym (own_given i more))
-        ∙ ap (epochs_after (epochs_opening i)) (sym (filter_map-append (output_if_by i) outs (by i more)))
+        ∙ sym (through-append (history_opening_of i) (filter_map (output_if_by i) outs) more)
+        ∙ ap (λ xs. epochs_after (history_opening_of i) (filter_map (output_if_by i) outs ++ xs)) (sym (own_given i more))
+        ∙ ap (epochs_after (history_opening_of i)) (sym (filter_map-append (output_if_by i) outs (by i more)))
 
-    there : (j == i) ≡ false → (i == j) ≡ false → epochs_as_received (put_node nodes i n j).epochs ≡ epochs_after (epochs_opening j) (filter_map (output_if_by j) (outs ++ by i more))
+    there : (j == i) ≡ false → (i == j) ≡ false → epochs_as_received (put_node nodes i n j).epochs ≡ epochs_after (history_opening_of j) (filter_map (output_if_by j) (outs ++ by i more))
     there e f =
         ap (λ b. epochs_as_received (cond b n (nodes j)).epochs) e
         ∙ node_epochs j
-        ∙ ap (epochs_after (epochs_opening j)) (sym (append-nil (filter_map (output_if_by j) outs)))
-        ∙ ap (λ xs. epochs_after (epochs_opening j) (filter_map (output_if_by j) outs ++ xs)) (sym (other_given i j f more))
-        ∙ ap (epochs_after (epochs_opening j)) (sym (filter_map-append (output_if_by j) outs (by i more)))
+        ∙ ap (epochs_after (history_opening_of j)) (sym (append-nil (filter_map (output_if_by j) outs)))
+        ∙ ap (λ xs. epochs_after (history_opening_of j) (filter_map (output_if_by j) outs ++ xs)) (sym (other_given i j f more))
+        ∙ ap (epochs_after (history_opening_of j)) (sym (filter_map-append (output_if_by j) outs (by i more)))
 
     away : j ≢ i → (i == j) ≡ false
     away d = elim (eqb_tells i j) [
@@ -164,7 +164,7 @@ module _ {A : Type 0} (w : World A) (outs : List (ℕ × Out A)) (i : ℕ) (n : 
 
   pub becomes_part : (after : World A) → Becomes after →
       with_cores (after_step (ring_part w outs) i (record { core = n.core; outs = more }))
-      (put (cores_of w.nodes) i n.core) ≡ ring_part after (outs ++ by i more)
+      (with_core (cores_of w.nodes) i n.core) ≡ ring_part after (outs ++ by i more)
   becomes_part after b =
       ap (λ cores. record {
         total = w.group.count;
@@ -195,13 +195,13 @@ module _ {A : Type 0} (w : World A) (outs : List (ℕ × Out A)) (i : ℕ) (n : 
 step_then_sends : {A : Type 0} → (w : World A) (outs : List (ℕ × Out A)) (i : ℕ) (s : StepResult A) (ps : List (Payload A)) →
     is_world_node w i ≡ true → may_install s.core ≡ false →
     run (after_step (ring_part w outs) i s) (sends_to i ps)
-    ≡ with_cores (after_step (ring_part w outs) i s) (put (cores_of w.nodes) i (handed_over s.core ps))
+    ≡ with_cores (after_step (ring_part w outs) i s) (with_core (cores_of w.nodes) i (handed_over s.core ps))
 step_then_sends {A} w outs i s ps m e =
     let r = after_step (ring_part w outs) i s in
     let here : r.cores i ≡ s.core = put-here (cores_of w.nodes) i s.core in
     run_sends r i ps m (subst (λ (c : Core A). may_install c ≡ false) (sym here) e)
     ∙ ap (with_cores r) (put-put (cores_of w.nodes) i s.core (handed_over (r.cores i) ps))
-    ∙ ap (λ c. with_cores r (put (cores_of w.nodes) i (handed_over c ps))) here
+    ∙ ap (λ c. with_cores r (with_core (cores_of w.nodes) i (handed_over c ps))) here
 
 -- A node's step, by whether its log is sound
 
@@ -214,7 +214,7 @@ module _ {O A : Type 0} (object : Sequential O) (w : World A) (outs : List (ℕ 
             ap (λ t. stopped_if t (ring_part w outs) i) member
             ∙ ap-both (λ frames more. record {
               total = w.group.count;
-              cores = put (cores_of w.nodes) i
+              cores = with_core (cores_of w.nodes) i
                   (halted (w.nodes i).core);
               frames = frames;
               outs = more;
@@ -226,7 +226,7 @@ module _ {O A : Type 0} (object : Sequential O) (w : World A) (outs : List (ℕ 
 
   -- the core's step, and what is due after it, whatever the node did, answered and dropped
   goes_on : (did : List (OneCall A)) (answers : List (TicketAnswer A)) (input : Input A) (event : RingEvent A) →
-      happens (ring_part w outs) event ≡ after_step (ring_part w outs) i (ring_step (w.nodes i).core input) →
+      world_after_event (ring_part w outs) event ≡ after_step (ring_part w outs) i (ring_step (w.nodes i).core input) →
       (epochs : List (Epoch A)) (due : List (Payload A)) → epochs_as_received epochs ≡ epochs_as_received (epochs_after (w.nodes i).epochs (ring_step (w.nodes i).core input).outs) →
       (after : World A) →
       Becomes w outs i (record (node_after_outputs (w.nodes i) (ring_step (w.nodes i).core input).core [] due) { epochs = epochs; done = did; answers = answers })
@@ -241,7 +241,7 @@ module _ {O A : Type 0} (object : Sequential O) (w : World A) (outs : List (ℕ 
         over = becomes_over w outs i n s.outs after b over l (handed_is s.core due empty_step);
       }
 
-  settles : (input : Input A) (event : RingEvent A) → happens (ring_part w outs) event ≡ after_step (ring_part w outs) i (ring_step (w.nodes i).core input) →
+  settles : (input : Input A) (event : RingEvent A) → world_after_event (ring_part w outs) event ≡ after_step (ring_part w outs) i (ring_step (w.nodes i).core input) →
       (t : Bool) (k : KnownLog A) → (epochs : List (Epoch A)) (due : List (Payload A))
       → epochs ≡ epochs_after (w.nodes i).epochs (ring_step (w.nodes i).core input).outs →
       Leads w outs (core_events_if_sound t i event due (ring_step (w.nodes i).core input).outs) (after_node w i (settled object t (w.nodes i)
@@ -264,7 +264,7 @@ module _ {O A : Type 0} (object : Sequential O) (w : World A) (outs : List (ℕ 
       (λ f. goes_on d.node.done d.node.answers input event e (epochs_with_sends due epochs) due heard _ (refl, refl, sent))
 
   -- a frame or a timeout
-  pub steps : (input : Input A) (event : RingEvent A) (given : NodeInput A) → happens (ring_part w outs) event
+  pub steps : (input : Input A) (event : RingEvent A) (given : NodeInput A) → world_after_event (ring_part w outs) event
       ≡ after_step (ring_part w outs) i (ring_step (w.nodes i).core input) →
       node_step object (w.nodes i) given ≡ after_core object (w.nodes i) (ring_step (w.nodes i).core input) →
       Leads w outs (core_events_of_step object (w.nodes i) i event (ring_step (w.nodes i).core input)) (after_node w i (node_step object (w.nodes i) given))
@@ -274,4 +274,4 @@ module _ {O A : Type 0} (object : Sequential O) (w : World A) (outs : List (ℕ 
       let epochs = epochs_after n.epochs s.outs in
       let k = known_log_of n.group epochs in
       subst (λ x. Leads w outs (core_events_of_step object n i event s) (after_node w i x)) (sym g)
-      (settles input event e (is_known_log_sound n.group epochs && is_restored object k) k epochs (due_by object n s.core n.epochs s.outs) refl)
+      (settles input event e (is_known_log_sound n.group epochs && is_restored object k) k epochs (due_of_outputs object n s.core n.epochs s.outs) refl)

@@ -14,8 +14,8 @@ use Rattle.ring_core_spec.specs.declared.out.Out.TheVariants.{Send, Agreed, Safe
 use Rattle.ring_log.specs.declared.wanted.Wanted.{Wanted}
 use Rattle.ring_log.specs.Exchanges.{wanted}
 use Rattle.ring_log.specs.Epochs.{Epoch, epochs_with_message, epochs_with_mark, epochs_with_sends, epochs_with_trim}
-use Rattle.ring_log.specs.EpochHistories.{CompleteExchange, complete_exchange, upto}
-use Rattle.ring_log.specs.KnownLog.{KnownLog, restores, known_log_restored, known_log_joined, adopts_wanted, kept_by, known_log_of, known_log_head}
+use Rattle.ring_log.specs.EpochHistories.{CompleteExchange, complete_exchange, messages_upto}
+use Rattle.ring_log.specs.KnownLog.{KnownLog, restores, known_log_restored, known_log_joined, adopts_wanted, known_log_after_epoch, known_log_of, known_log_head}
 use Rattle.ring_log_proof.specs.RingFacts.{HasEpoch, EpochIn, RingFacts}
 use Rattle.ring_log_proof.specs.Discipline.{KeepsRules, DropsOnlyCommitted}
 use Rattle.ring_log_proof.proofs.KnownGrows.{kept-least}
@@ -79,7 +79,7 @@ gone {A} group bound (s ∷ older) most = whole (by (before (gone group bound ol
     ]
 
     safe : Option (CompleteExchange A)
-    safe = complete_exchange group s.members (upto s.mark s.heard)
+    safe = complete_exchange group s.members (messages_upto s.mark s.heard)
 
     adopted : Gone k.trimmed → (w : CompleteExchange A) → complete_exchange group s.members s.heard ≡ Some w → (o : Option Wanted) → wanted w.exchange ≡ o
         → Gone (adopts_wanted k s.ring o w).trimmed
@@ -105,13 +105,13 @@ gone {A} group bound (s ∷ older) most = whole (by (before (gone group bound ol
         }))
         (λ f. was)
 
-    by : Gone k.trimmed → (o : Option (CompleteExchange A)) → complete_exchange group s.members s.heard ≡ o → Gone (kept_by s.ring k o safe).trimmed
+    by : Gone k.trimmed → (o : Option (CompleteExchange A)) → complete_exchange group s.members s.heard ≡ o → Gone (known_log_after_epoch s.ring k o safe).trimmed
     by was None e = was
     by was (Some w) e = adopted was w e (wanted w.exchange) refl
 
-    whole : Gone (kept_by s.ring k (complete_exchange group s.members s.heard) safe).trimmed → Gone (known_log_of group (s ∷ older)).trimmed
+    whole : Gone (known_log_after_epoch s.ring k (complete_exchange group s.members s.heard) safe).trimmed → Gone (known_log_of group (s ∷ older)).trimmed
     whole g =
-        let n = (kept_by s.ring k (complete_exchange group s.members s.heard) safe).trimmed in
+        let n = (known_log_after_epoch s.ring k (complete_exchange group s.members s.heard) safe).trimmed in
         let low = most s older (inl (refl, refl)) in
         elim g as (λ _. Gone (max s.trimmed n)) [
           | inl le ↦ inl (omega (arith, low, le))
@@ -130,14 +130,14 @@ pub known-older : {A : Type 0} (group : Group) (epochs : List (Epoch A)) (s : Ep
 known-older group [] s older i = absurd i
 known-older {A} group (t ∷ before) s older (inl e) =
     let k = known_log_of group older in (
-      kept-least k s.ring (complete_exchange group s.members s.heard) (complete_exchange group s.members (upto s.mark s.heard)),
+      kept-least k s.ring (complete_exchange group s.members s.heard) (complete_exchange group s.members (messages_upto s.mark s.heard)),
       let same : (known_log_of group (t ∷ before)).committed ≡ (known_log_of group (s ∷ older)).committed =
           ap (λ (x : Epoch A). (known_log_of group (x ∷ before)).committed) e.0 ∙ ap (λ (l : List (Epoch A)). (known_log_of group (s ∷ l)).committed) e.1 in
           omega (arith, same),
     )
 known-older group (t ∷ before) s older (inr i) =
     let rest = known-older group before s older i in
-    let more = kept-least (known_log_of group before) t.ring (complete_exchange group t.members t.heard) (complete_exchange group t.members (upto t.mark t.heard)) in (
+    let more = kept-least (known_log_of group before) t.ring (complete_exchange group t.members t.heard) (complete_exchange group t.members (messages_upto t.mark t.heard)) in (
       rest.0,
       omega (arith, rest.1, more),
     )

@@ -17,7 +17,7 @@ use Rattle.ring_base.proofs.Cases.{or-true}
 use Rattle.ring_base.proofs.Each.{each-weaker, each-front, each-both, each-take}
 use Rattle.ring_base.proofs.ListFronts.{take-front}
 use Rattle.ring_object.specs.Operations.{Sequential}
-use Rattle.ring_payload.specs.Kinds.{unpacked_payloads}
+use Rattle.ring_payload.specs.PayloadKinds.{unpacked_payloads}
 use Rattle.ring_payload.specs.Limits.{max_snapshot}
 use Rattle.ring_payload.specs.declared.call.Call.{Call as OneCall}
 use Rattle.ring_payload.specs.declared.content.Payload.{Payload}
@@ -25,13 +25,13 @@ use Rattle.ring_payload.specs.declared.content.Payload.TheVariants.{Call, Wrappe
 use Rattle.ring_wire.specs.declared.message.Message.{Message}
 use Rattle.ring_log.specs.declared.wanted.Wanted.{Wanted}
 use Rattle.ring_log.specs.Exchanges.{exchange_opening, wanted}
-use Rattle.ring_log.specs.Epochs.{Epoch, above}
+use Rattle.ring_log.specs.Epochs.{Epoch, number_above_rings}
 use Rattle.ring_log.specs.Logs.{begins}
-use Rattle.ring_log.specs.EpochHistories.{CompleteExchange, complete_exchange, calls_in, upto, log_by, log_of, committed_of, own_base, older_at, keeps_committed, is_known_on}
-use Rattle.ring_log.specs.KnownLog.{KnownLog, restores, known_log_restored, known_log_joined, adopts_wanted, adopts, kept_by, known_log_of}
+use Rattle.ring_log.specs.EpochHistories.{CompleteExchange, complete_exchange, calls_in, messages_upto, log_by, log_of, committed_of, own_base, older_at, keeps_committed, is_known_on}
+use Rattle.ring_log.specs.KnownLog.{KnownLog, restores, known_log_restored, known_log_joined, adopts_wanted, adopts, known_log_after_epoch, known_log_of}
 use Rattle.ring_log_proof.specs.RingFacts.{HasEpoch, EpochIn, payloads_from, RingFacts}
 use Rattle.ring_log_proof.specs.Discipline.{KeepsRules}
-use Rattle.ring_log_proof.specs.Time.{SendsOnlyKnown}
+use Rattle.ring_log_proof.specs.EpochEvents.{SendsOnlyKnown}
 use Rattle.ring_log_proof.specs.Views.{IsView}
 use Rattle.ring_log_proof.proofs.AdoptedBases.{kept-all}
 use Rattle.ring_log_proof.proofs.CallPrefixes.{front_begins}
@@ -44,7 +44,7 @@ use Rattle.ring_log_proof.proofs.Epochs.{IsLifeBelow, epochs-behind, epochs-lowe
 use Rattle.ring_log_proof.proofs.CompleteExchanges.{complete_exchange-whole}
 use Rattle.ring_session.specs.Snapshots.{KeepsLimits, table_snapshot, restored_table}
 use Rattle.ring_session.specs.Table.{opening, table_next, table_after}
-use Rattle.ring_node_spec.specs.Nodes.{table_or, table_before, table_at, snapshot_at, snapshot_kept, is_restored}
+use Rattle.ring_node_spec.specs.Nodes.{restored_table_or, table_before, table_after_places, snapshot_at, snapshot_kept, is_restored}
 use Rattle.ring_order_proof.proofs.HonestPieces.{IsPieceOf, IsHonestPiece, HearsPieces, epochs_with_message-exchange_opening, epochs_with_message-all, whole-bytes}
 
 -- the snapshot of each table after calls that keep the limits can be restored to it, if it isn't too long
@@ -70,7 +70,7 @@ module _ {O A : Type 0} (object : Sequential O) where
   module _ (k : KnownLog A) (log : List (OneCall A)) (told : Told k.from k.snapshot log) where
     before-none : k.from ≡ 0 → table_before object k ≡ table_after object (take k.from log)
     before-none none =
-        cond-true (k.from == 0) (opening object.initial) (table_or object (restored_table object.restored k.snapshot)) (eq-eqb k.from 0 none)
+        cond-true (k.from == 0) (opening object.initial) (restored_table_or object (restored_table object.restored k.snapshot)) (eq-eqb k.from 0 none)
         ∙ sym (ap (λ n. table_after object (take n log)) none)
 
     -- the table before the known places
@@ -80,8 +80,8 @@ module _ {O A : Type 0} (object : Sequential O) where
       | inr r ↦ elim (cases_eq k.from 0) as (λ _. table_before object k ≡ table_after object (take k.from log)) [
         | inl none ↦ before-none none
         | inr other ↦
-            cond-false (k.from == 0) (opening object.initial) (table_or object (restored_table object.restored k.snapshot)) (ne_eqb k.from 0 other)
-            ∙ ap (table_or object) r.restored
+            cond-false (k.from == 0) (opening object.initial) (restored_table_or object (restored_table object.restored k.snapshot)) (ne_eqb k.from 0 other)
+            ∙ ap (restored_table_or object) r.restored
       ]
     ]
 
@@ -94,7 +94,7 @@ module _ {O A : Type 0} (object : Sequential O) where
 
     module _ (calls : k.calls ≡ drop k.from log) where
       -- the table after the first places
-      pub at-told : (places : ℕ) → k.from ≤ places → table_at object k places ≡ table_after object (take places log)
+      pub at-told : (places : ℕ) → k.from ≤ places → table_after_places object k places ≡ table_after object (take places log)
       at-told places low =
           let first = take k.from log in
           let more = take (places - k.from) (drop k.from log) in
@@ -281,12 +281,12 @@ module _ {O A : Type 0} (object : Sequential O) (back : ComesBack object A) (gro
             (λ (a : KnownLog A). Told object a.from a.snapshot log) restored-told (λ f. stays-told))
 
       by-exchange : (x safe : Option (CompleteExchange A)) → complete_exchange group s.members s.heard ≡ x
-          → Told object (kept_by r (known_log_of group older) x safe).from (kept_by r (known_log_of group older) x safe).snapshot (log_by own s.front x)
+          → Told object (known_log_after_epoch r (known_log_of group older) x safe).from (known_log_after_epoch r (known_log_of group older) x safe).snapshot (log_by own s.front x)
       by-exchange None safe e = told
       by-exchange (Some w) safe e = adopts-told w e
 
       told-more : IsTold (s ∷ older)
-      told-more = by-exchange (complete_exchange group s.members s.heard) (complete_exchange group s.members (upto s.mark s.heard)) refl
+      told-more = by-exchange (complete_exchange group s.members s.heard) (complete_exchange group s.members (messages_upto s.mark s.heard)) refl
 
     -- Of all
 
@@ -307,6 +307,6 @@ module _ {O A : Type 0} (object : Sequential O) (back : ComesBack object A) (gro
 
     pub told-at : (p : ℕ) → IsTold (node_epochs p)
     told-at p =
-        let bound = above (node_epochs p) in
+        let bound = number_above_rings (node_epochs p) in
         told-below bound p (node_epochs p)
         (record { rises = facts.rises p; there = λ s older i. i; low = below-above (node_epochs p) bound (facts.rises p) (omega arith) })

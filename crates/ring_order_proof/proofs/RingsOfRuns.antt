@@ -8,7 +8,7 @@ use Rattle.ring_base.specs.Numbers.{numbers_from}
 use Rattle.ring_base.specs.Processors.{IsProc, IsMember}
 use Rattle.ring_base.specs.Rings.{same_ring}
 use Rattle.ring_base.specs.declared.ring_id.RingId.{RingId}
-use Rattle.ring_payload.specs.Kinds.{is_user}
+use Rattle.ring_payload.specs.PayloadKinds.{is_user}
 use Rattle.ring_wire.specs.declared.message.Message.{Message}
 use Rattle.ring_core_spec.specs.Windows.{found}
 use Rattle.ring_base.proofs.SameRing.{ring_same, same-self}
@@ -16,7 +16,7 @@ use Rattle.ring_core_spec.specs.Tokens.{TokenVisit, IsSafeIn}
 use Rattle.ring_core_spec.specs.Commits.{Configuration}
 use Rattle.ring_core_spec.specs.State.{Core}
 use Rattle.ring_core_spec.specs.Views.{front, mark}
-use Rattle.ring_core_spec.specs.Giving.{users}
+use Rattle.ring_core_spec.specs.Giving.{user_messages_between}
 use Rattle.ring_core_proof.specs.FactWords.{IsIn}
 use Rattle.ring_core_proof.specs.declared.event.RingEvent.{RingEvent}
 use Rattle.ring_core_proof.specs.Worlds.{World, is_node, run, unformed}
@@ -28,7 +28,7 @@ use Rattle.ring_synchrony_proof.proofs.Quantified.{numbers_in}
 use Rattle.ring_synchrony_proof.proofs.UserMessages.{found_as}
 use Rattle.ring_synchrony_proof.proofs.Recovering.{Recovered, all_recovered}
 use Rattle.ring_synchrony_proof.proofs.Installed.{all_orderly, all_ready, heard_installed}
-use Rattle.ring_log.specs.EpochHistories.{upto}
+use Rattle.ring_log.specs.EpochHistories.{messages_upto}
 use Rattle.ring_order_proof.proofs.Numbering.{users_in, upto_taken}
 use Rattle.ring_order_proof.proofs.RunTexts.{whole, complete_exchange_from, heard_is, numbered_by_sender}
 use Rattle.ring_core_proof.proofs.MembersOfRings.{StandsAs, AllStand, IsWithin, all_stand}
@@ -140,13 +140,13 @@ module _ {A : Type 0} (w : World A) (k : IsWhole w) where
 
   -- what a processor knows as safe of a ring
   pub safe_is : (p : ℕ) (ring : RingId) →
-      upto (mark (w.cores p) ring) (users (w.cores p) ring 0 (front (w.cores p) ring)) ≡ numbered_upto ring (mark (w.cores p) ring)
+      messages_upto (mark (w.cores p) ring) (user_messages_between (w.cores p) ring 0 (front (w.cores p) ring)) ≡ numbered_upto ring (mark (w.cores p) ring)
   safe_is p ring =
       let m = mark (w.cores p) ring in
       let f = front (w.cores p) ring in
       let zero : 0 + m ≡ m = omega arith in
-      ap (upto m) (heard_is w k.recovered p ring f (omega arith))
-      ∙ ap (λ n. upto n (users_in (take f (whole w k.recovered ring)))) (sym zero)
+      ap (messages_upto m) (heard_is w k.recovered p ring f (omega arith))
+      ∙ ap (λ n. messages_upto n (users_in (take f (whole w k.recovered ring)))) (sym zero)
       ∙ upto_taken 0 m f (whole w k.recovered ring) (complete_exchange_from w k.recovered ring) (mark_within p ring)
 
   -- each of these members has installed the ring, and its front has reached the number

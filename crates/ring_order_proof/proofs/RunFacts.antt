@@ -14,19 +14,19 @@ use Rattle.ring_payload.specs.declared.content.Payload.{Payload}
 use Rattle.ring_wire.specs.declared.message.Message.{Message}
 use Rattle.ring_core_spec.specs.Commits.{Configuration}
 use Rattle.ring_core_spec.specs.Views.{front, mark}
-use Rattle.ring_core_spec.specs.Giving.{users}
+use Rattle.ring_core_spec.specs.Giving.{user_messages_between}
 use Rattle.ring_core_proof.specs.FactWords.{IsIn}
-use Rattle.ring_core_proof.specs.LawWords.{IsFalling}
+use Rattle.ring_core_proof.specs.LawConditions.{IsFalling}
 use Rattle.ring_core_proof.specs.Worlds.{World as RingWorld}
 use Rattle.ring_core_proof.proofs.InLists.{in-each}
 use Rattle.ring_synchrony_proof.specs.Chains.{IsRingOf}
 use Rattle.ring_synchrony_proof.proofs.Ordered.{Ordered}
-use Rattle.ring_log.specs.Epochs.{Epoch, above}
-use Rattle.ring_log.specs.EpochHistories.{upto, fronts_below}
+use Rattle.ring_log.specs.Epochs.{Epoch, number_above_rings}
+use Rattle.ring_log.specs.EpochHistories.{messages_upto, fronts_below}
 use Rattle.ring_payload.specs.declared.call.Call.{Call as OneCall}
 use Rattle.ring_log_proof.specs.RingFacts.{HasEpoch, EpochIn, Rises, payloads_from, safe_part, IsReceivedByAll, RingFacts}
 use Rattle.ring_log_proof.proofs.FilledEpochs.{filled-heard, facts-filled}
-use Rattle.ring_core_spec.specs.Tokens.{TokenVisit, turns_of, IsSafeIn}
+use Rattle.ring_core_spec.specs.Tokens.{TokenVisit, visits_in_ring, IsSafeIn}
 use Rattle.ring_node_spec.specs.declared.event.Event.{Event}
 use Rattle.ring_node_spec.specs.Worlds.{World, world_opening, is_node, run, epochs_in, whole_epochs_in}
 use Rattle.ring_order_proof.specs.Projection.{ring_part, IsRingRun}
@@ -126,8 +126,8 @@ module _ {A : Type 0} (group : Group) (w : World A) (k : AreNodes group w) where
   stay_there q ring h =
       let c = part.cores q in
       let f = stay_for c (w.nodes q).epochs c.installs (life_told group w k.ring q (k.ordered q)) h.at h.there in
-      let all : (f.epoch).heard ≡ users c ring 0 (front c ring) =
-      ap (λ (x : Epoch A). x.heard) f.is ∙ ap (λ (r : RingId). users c r 0 (front c r)) h.ring_is in
+      let all : (f.epoch).heard ≡ user_messages_between c ring 0 (front c ring) =
+      ap (λ (x : Epoch A). x.heard) f.is ∙ ap (λ (r : RingId). user_messages_between c r 0 (front c r)) h.ring_is in
       record {
         epoch = f.epoch;
         older = f.older;
@@ -166,7 +166,7 @@ module _ {A : Type 0} (group : Group) (w : World A) (k : AreNodes group w) where
       let t = told i s older j in
       let ring = (t.at).ring in
       let is : safe_part s ≡ numbered_upto part k.cores ring (mark (part.cores i) ring) =
-      ap (λ (x : Epoch A). upto x.mark x.heard) t.is ∙ safe_is part k.cores i ring in
+      ap (λ (x : Epoch A). messages_upto x.mark x.heard) t.is ∙ safe_is part k.cores i ring in
       elim (safe_reached part k.cores i ring (t.at).members (ring_told i s older j)) [
         | inl none ↦ inl (is ∙ none)
         | inr all ↦
@@ -177,12 +177,12 @@ module _ {A : Type 0} (group : Group) (w : World A) (k : AreNodes group w) where
 
   -- if every member's front has reached a number, the text up to it
   reached_of : (ring : RingId) (n : ℕ) → IsSafeIn (members_of part.cores ring) (λ q. front (part.cores q) ring) n →
-      (upto n (text ring) ≡ []) ⊎ IsReceivedByAll (epochs_in w) ring (members_of part.cores ring) (upto n (text ring))
+      (messages_upto n (text ring) ≡ []) ⊎ IsReceivedByAll (epochs_in w) ring (members_of part.cores ring) (messages_upto n (text ring))
   reached_of ring n safe =
       let set = members_of part.cores ring in
       let numbered = whole part k.cores.recovered ring in
-      let is : upto n (text ring) ≡ numbered_upto part k.cores ring n =
-      ap (λ (xs : List (Message A)). upto n xs) (text_is part k.cores.recovered ring) ∙ upto_all n numbered (complete_exchange_from part k.cores.recovered ring) in
+      let is : messages_upto n (text ring) ≡ numbered_upto part k.cores ring n =
+      ap (λ (xs : List (Message A)). messages_upto n xs) (text_is part k.cores.recovered ring) ∙ upto_all n numbered (complete_exchange_from part k.cores.recovered ring) in
       elim (some_taken n numbered) [
         | inl none ↦ inl (is ∙ none)
         | inr x ↦ elim (reached_installed part k.cores ring set n safe) [
@@ -211,7 +211,7 @@ module _ {A : Type 0} (group : Group) (w : World A) (k : AreNodes group w) where
   stranger_silent : (i : ℕ) → is_node w i ≡ false → (ring : RingId) → payloads_from i (text ring) ≡ []
   stranger_silent i stranger ring =
       let none : (w.nodes i).core.turns ≡ [] = subst (λ b. StandsAs b w.group.count (part.cores i)) stranger (k.cores.stand i) in
-      (texts part k.cores.recovered).said i ring ∙ ap (λ (ts : List (TokenVisit A)). payloads_of_visits (turns_of ring ts)) none
+      (texts part k.cores.recovered).said i ring ∙ ap (λ (ts : List (TokenVisit A)). payloads_of_visits (visits_in_ring ring ts)) none
 
   -- All facts, of the lives of the group's processors
 
@@ -222,7 +222,7 @@ module _ {A : Type 0} (group : Group) (w : World A) (k : AreNodes group w) where
   of_lives P f i = cond_both (is_node w i) (w.nodes i).epochs [] (OfStays P i) (λ e. f i e) (λ e s older j. absurd j)
 
   abbrev fronts : ℕ → ℕ → ℕ → List (OneCall A)
-  fronts p = fronts_below w.group (epochs_in w) (above (epochs_in w p))
+  fronts p = fronts_below w.group (epochs_in w) (number_above_rings (epochs_in w p))
 
   own_facts : RingFacts (epochs_in w) (members_of part.cores) text
   own_facts = record {
@@ -250,10 +250,10 @@ module _ {A : Type 0} (group : Group) (w : World A) (k : AreNodes group w) where
         own = own_facts;
         facts = facts-filled (epochs_in w) fronts (members_of part.cores) text own_facts;
         speech = (texts part k.cores.recovered).said;
-        reached = λ ring n safe. elim (reached_of ring n safe) as (λ _. (upto n (text ring) ≡ [])
-            ⊎ IsReceivedByAll (whole_epochs_in w) ring (members_of part.cores ring) (upto n (text ring))) [
+        reached = λ ring n safe. elim (reached_of ring n safe) as (λ _. (messages_upto n (text ring) ≡ [])
+            ⊎ IsReceivedByAll (whole_epochs_in w) ring (members_of part.cores ring) (messages_upto n (text ring))) [
               | inl none ↦ inl none
-              | inr all ↦ inr (filled-heard (epochs_in w) fronts ring (members_of part.cores ring) (upto n (text ring)) all)
+              | inr all ↦ inr (filled-heard (epochs_in w) fronts ring (members_of part.cores ring) (messages_upto n (text ring)) all)
             ];
       }
 

@@ -7,13 +7,13 @@ use Rattle.ring_base.specs.Rings.{same_ring}
 use Rattle.ring_base.specs.declared.ring_id.RingId.{RingId}
 use Rattle.ring_base.proofs.ListFronts.{taken-front}
 use Rattle.ring_base.proofs.SameRing.{same-self}
-use Rattle.ring_payload.specs.Kinds.{is_user}
+use Rattle.ring_payload.specs.PayloadKinds.{is_user}
 use Rattle.ring_wire.specs.declared.message.Message.{Message}
 use Rattle.ring_core_spec.specs.Windows.{found, holds}
 use Rattle.ring_core_spec.proofs.Windows.{front_is, holds-found}
 use Rattle.ring_core_spec.specs.Tokens.{TokenVisit, numbered, VisitBy}
 use Rattle.ring_core_spec.specs.Views.{front}
-use Rattle.ring_core_spec.specs.Giving.{users}
+use Rattle.ring_core_spec.specs.Giving.{user_messages_between}
 use Rattle.ring_core_proof.specs.FactWords.{IsIn, SomeIs}
 use Rattle.ring_core_proof.specs.declared.event.RingEvent.{RingEvent}
 use Rattle.ring_core_proof.specs.Worlds.{World, run, unformed}
@@ -58,7 +58,7 @@ module _ {A : Type 0} (w : World A) (r : Recovered w.cores w.frames) where
       )
 
   -- the messages received up to a number are those numbered up to it
-  pub heard_is : (q : ℕ) (ring : RingId) (n : ℕ) → n ≤ front (w.cores q) ring → users (w.cores q) ring 0 n ≡ users_in (take n (whole ring))
+  pub heard_is : (q : ℕ) (ring : RingId) (n : ℕ) → n ≤ front (w.cores q) ring → user_messages_between (w.cores q) ring 0 n ≡ users_in (take n (whole ring))
   heard_is q ring n l =
       let get = found (w.cores q).held ring in
       let same : n - 0 ≡ n = omega arith in

@@ -19,22 +19,22 @@ use Rattle.ring_core_spec.specs.declared.input.Input.TheVariants.{Frame as Frame
 use Rattle.ring_core_spec.specs.declared.out.Out.{Out}
 use Rattle.ring_core_spec.specs.State.{Core, OutgoingFrame, TransitionResult}
 use Rattle.ring_core_spec.specs.Views.{mark}
-use Rattle.ring_core_spec.specs.Visiting.{repeated, new_payloads, new_messages, token_forwarded, to_next, token_visited}
+use Rattle.ring_core_spec.specs.Visiting.{messages_sent_again, new_payloads, new_messages, token_forwarded, to_next, token_visited}
 use Rattle.ring_core_spec.specs.Deciding.{Transition, Ignore, Enqueue, Repeat, Announce, Invite, GiveUp, EnterGather, Agree, MergeJoin}
 use Rattle.ring_core_spec.specs.Deciding.{EnterGatherAndAgree, EnterGatherAndMergeJoin, Take, Visit, Fill, Learn, decide}
-use Rattle.ring_core_spec.specs.Transitions.{last_sent_repeated, may_propose_after, apply_transition, with_proposal_if, done}
+use Rattle.ring_core_spec.specs.Transitions.{last_sent_repeated, may_propose_after, apply_transition, with_proposal_if, transition_and_proposal}
 use Rattle.ring_core_spec.specs.Joining.{proposes}
-use Rattle.ring_core_spec.specs.Handing.{after_proposal}
+use Rattle.ring_core_spec.specs.CommitSteps.{after_proposal}
 use Rattle.ring_core_spec.specs.Stepping.{ring_step}
 use Rattle.ring_node_spec.specs.declared.input.Input.{Input as NodeInput}
 use Rattle.ring_node_spec.specs.declared.input.Input.TheVariants.{Frame as NodeFrame, Noise as NodeNoise, Timeout as NodeTime, Stop as NodeStop}
 use Rattle.ring_node_spec.specs.NodeLimits.{InputFits as NodeInputFits}
 use Rattle.ring_node_spec.specs.EpochHistories.{epochs_after}
 use Rattle.ring_node_spec.specs.Nodes.{Node, node_known_log, is_closed, is_restored}
-use Rattle.ring_node_spec.specs.DueSends.{due_by}
+use Rattle.ring_node_spec.specs.DueSends.{due_of_outputs}
 use Rattle.ring_node_spec.specs.Stepping.{NodeStepResult, send_of, with_dropped, newly_committed, drops, did, settled, node_after_outputs, after_core, node_step}
 use Rattle.ring_core_spec.proofs.Tokens.{length-numbered}
-use Rattle.ring_core_proof.specs.LawWords.{IsInputOf}
+use Rattle.ring_core_proof.specs.LawConditions.{IsInputOf}
 use Rattle.ring_core_proof.proofs.Causes.{caused}
 use Rattle.ring_core_proof.proofs.StepsAreMoves.{fresh_few}
 use Rattle.ring_core_proof.specs.Limits.{InputFits}
@@ -60,7 +60,7 @@ few_filter_map f (x ∷ xs) = omega (arith, few_filter_map f xs, few_option (f x
 
 -- The frames of a visit
 
-few_repeated : {A : Type 0} → (c : Core A) (t : Token) → length (repeated c t) ≤ length t.requests
+few_repeated : {A : Type 0} → (c : Core A) (t : Token) → length (messages_sent_again c t) ≤ length t.requests
 few_repeated c t =
     let a = few_filter_map (found c.held t.ring) (above_mark (mark c t.ring) t.requests) in
     let b = few_filter (nat_lt (mark c t.ring)) t.requests in
@@ -75,10 +75,10 @@ few_new c t =
 few_visited : {A : Type 0} → (c : Core A) (t : Token) → length t.requests ≤ 32 → length (token_visited c t).sends ≤ 41
 few_visited {A} c t few =
     let f : Message A → OutgoingFrame A = λ x. record { to = less c.running.members (only c.me); frame = MessageFrame x } in
-    let xs = repeated c t ++ new_messages c t in
+    let xs = messages_sent_again c t ++ new_messages c t in
     let a = length-append (map f xs) (to_next c (token_forwarded c t) ∷ []) in
     let b = length-map xs f in
-    let d = length-append (repeated c t) (new_messages c t) in
+    let d = length-append (messages_sent_again c t) (new_messages c t) in
     omega (arith, a, b, d, few_repeated c t, few_new c t, few)
 
 -- The frames of each act
@@ -109,7 +109,7 @@ few_proposed : {A : Type 0} → (b : Bool) (d : TransitionResult A) → length d
 few_proposed false d l = omega (arith, l)
 few_proposed true d l = omega (arith, l, length-append d.sends (after_proposal d.core).sends)
 
-few_done : {A : Type 0} → (c : Core A) (input : Input A) → InputFits input → length (done c (decide c input)).sends ≤ 42
+few_done : {A : Type 0} → (c : Core A) (input : Input A) → InputFits input → length (transition_and_proposal c (decide c input)).sends ≤ 42
 few_done c input w =
     let a = decide c input in
     few_proposed (may_propose_after a && proposes (apply_transition c a).core) (apply_transition c a) (few_acted c input w a (caused c input))
@@ -118,7 +118,7 @@ few_done c input w =
 
 pub few_frames : {A : Type 0} → (c : Core A) (input : Input A) → InputFits input → length (filter_map send_of (ring_step c input).outs) ≤ 64
 few_frames {A} c input w =
-    let sends = (done c (decide c input)).sends in
+    let sends = (transition_and_proposal c (decide c input)).sends in
     let a = ap length (step_sends c input) in
     let b = few_filter (λ (s : OutgoingFrame A). not (s.to == nobody)) sends in
     let d = few_done c input w in
@@ -140,7 +140,7 @@ module _ {O A : Type 0} (object : Sequential O) where
   few_after n input w =
       let s = ring_step n.core input in
       let epochs = epochs_after n.epochs s.outs in
-      few_if (is_known_log_sound n.group epochs && is_restored object (known_log_of n.group epochs)) n (node_after_outputs n s.core epochs (due_by object n s.core n.epochs s.outs)) s.outs
+      few_if (is_known_log_sound n.group epochs && is_restored object (known_log_of n.group epochs)) n (node_after_outputs n s.core epochs (due_of_outputs object n s.core n.epochs s.outs)) s.outs
       (known_log_of n.group epochs) (few_frames n.core input w)
 
   pub few_sends : (n : Node A) (input : NodeInput A) → NodeInputFits input → length (node_step object n input).sends ≤ 64

@@ -12,23 +12,23 @@ use Rattle.ring_base.specs.declared.state.State.{State}
 use Rattle.ring_base.specs.declared.state.State.TheVariants.{Gather, Commit, Recovery, Operational, Stopped}
 use Rattle.ring_base.proofs.Each.{each-weaker, each-append, each-push}
 use Rattle.ring_payload.specs.declared.content.Payload.{Payload}
-use Rattle.ring_payload.specs.Kinds.{is_user, unpacked_payloads}
+use Rattle.ring_payload.specs.PayloadKinds.{is_user, unpacked_payloads}
 use Rattle.ring_payload.specs.Packing.{is_queued, AreQueued, packed_payloads, unpacked_rest}
 use Rattle.ring_payload.proofs.Packing.{unpacked_payloads-packed_payloads, packed_payloads-users, user-queued}
 use Rattle.ring_wire.specs.declared.token.Token.{Token}
 use Rattle.ring_base.proofs.SameRing.{ring_same, same-self}
 use Rattle.ring_core_spec.specs.Commits.{Configuration}
-use Rattle.ring_core_spec.specs.Tokens.{TokenVisit, turns_of}
+use Rattle.ring_core_spec.specs.Tokens.{TokenVisit, visits_in_ring}
 use Rattle.ring_core_spec.specs.declared.input.Input.{Input}
 use Rattle.ring_core_spec.specs.State.{Core, TransitionResult, opening, halted}
-use Rattle.ring_core_spec.specs.Visiting.{accepts, room_at, offers, new_payloads, queue_after}
+use Rattle.ring_core_spec.specs.Visiting.{accepts, room_at, payloads_to_send, new_payloads, queue_after}
 use Rattle.ring_core_spec.specs.Joining.{proposes}
 use Rattle.ring_core_spec.specs.Giving.{install}
 use Rattle.ring_core_spec.specs.Deciding.{Transition, Ignore, Enqueue, Repeat, Announce, Invite, GiveUp, EnterGather, Agree, MergeJoin}
 use Rattle.ring_core_spec.specs.Deciding.{EnterGatherAndAgree, EnterGatherAndMergeJoin, Take, Visit, Fill, Learn, decide}
-use Rattle.ring_core_spec.specs.Transitions.{apply_transition, may_propose_after, with_proposal_if, done}
+use Rattle.ring_core_spec.specs.Transitions.{apply_transition, may_propose_after, with_proposal_if, transition_and_proposal}
 use Rattle.ring_core_proof.specs.FactWords.{IsIn}
-use Rattle.ring_core_proof.specs.LawWords.{HasPassed}
+use Rattle.ring_core_proof.specs.LawConditions.{HasPassed}
 use Rattle.ring_core_proof.specs.Moves.{IsWrapping, AreWraps}
 use Rattle.ring_core_proof.proofs.WrapsAndEnd.{are_wraps}
 use Rattle.ring_core_proof.proofs.Guards.{guarded}
@@ -100,10 +100,10 @@ visit_else : {A : Type 0} → (c : Core A) (t : Token) (ring : RingId) → same_
 visit_else {A} c t ring e = ap payloads_of_visits (cond-false (same_ring t.ring ring) _ _ e)
 
 -- new messages if the core isn't in Operational
-not_operating : {A : Type 0} → (s : State) (c : Core A) (count : ℕ) → (s ≡ Operational → ⊥) → payloads_of_visit (offers s c count) ≡ []
+not_operating : {A : Type 0} → (s : State) (c : Core A) (count : ℕ) → (s ≡ Operational → ⊥) → payloads_of_visit (payloads_to_send s c count) ≡ []
 not_operating Gather c count n = refl
 not_operating Commit c count n = refl
-not_operating Recovery c count n = wraps_silent c (offers Recovery c count) (are_wraps c count)
+not_operating Recovery c count n = wraps_silent c (payloads_to_send Recovery c count) (are_wraps c count)
 not_operating Operational c count n = absurd (n refl)
 not_operating Stopped c count n = refl
 
@@ -125,7 +125,7 @@ module _ {A : Type 0} (c : Core A) (t : Token) (m : IsSpeaker c) (a : accepts c 
       let is : ring ≡ c.installed.ring = sym same ∙ accepted_ring c t a ∙ ap (λ (x : Configuration). x.ring) (m.operating o) in
       let count = room_at c t in
       let fresh : payloads_of_visit (new_payloads c t) ++ queue_after c.state count c.queue ≡ c.queue =
-      subst (λ q. payloads_of_visit (offers q c count) ++ queue_after q count c.queue ≡ c.queue) (sym o) (spoken_queue count c.queue m.queued) in
+      subst (λ q. payloads_of_visit (payloads_to_send q c count) ++ queue_after q count c.queue ≡ c.queue) (sym o) (spoken_queue count c.queue m.queued) in
       let all : sent ≡ sent_payloads d ring ++ d.queue =
       s.waits o is ∙ ap (λ (q : List (Payload A)). sent_payloads c ring ++ q) (sym fresh)
       ∙ sym (append_assoc (sent_payloads c ring) (payloads_of_visit (new_payloads c t)) (queue_after c.state count c.queue))
@@ -186,16 +186,16 @@ module _ {A : Type 0} (c : Core A) (t : Token) (m : IsSpeaker c) (a : accepts c 
 left_said : {A : Type 0} → (c d : Core A) (ring : RingId) (sent : List (Payload A)) → d.turns ≡ c.turns
     → (d.state ≡ Operational → ⊥) → IsSaid c ring sent → IsSaid d ring sent
 left_said {A} c d ring sent e n s =
-    record { front = subst (λ (vs : List (TokenVisit A)). IsListPrefix (payloads_of_visits (turns_of ring vs)) sent) (sym e) s.front; waits = λ p q. absurd (n p) }
+    record { front = subst (λ (vs : List (TokenVisit A)). IsListPrefix (payloads_of_visits (visits_in_ring ring vs)) sent) (sym e) s.front; waits = λ p q. absurd (n p) }
 
 same_said : {A : Type 0} → (c d : Core A) (ring : RingId) (sent : List (Payload A)) → d.turns ≡ c.turns
     → d.state ≡ c.state → d.installed ≡ c.installed → d.queue ≡ c.queue →
     IsSaid c ring sent → IsSaid d ring sent
 same_said {A} c d ring sent e st i q s =
     record {
-      front = subst (λ (vs : List (TokenVisit A)). IsListPrefix (payloads_of_visits (turns_of ring vs)) sent) (sym e) s.front;
+      front = subst (λ (vs : List (TokenVisit A)). IsListPrefix (payloads_of_visits (visits_in_ring ring vs)) sent) (sym e) s.front;
       waits = λ o r. s.waits (sym st ∙ o) (r ∙ ap (λ (x : Configuration). x.ring) i)
-          ∙ ap (λ (vs : List (TokenVisit A)). payloads_of_visits (turns_of ring vs) ++ c.queue) (sym e) ∙ ap (λ (x : List (Payload A)). sent_payloads d ring ++ x) (sym q);
+          ∙ ap (λ (vs : List (TokenVisit A)). payloads_of_visits (visits_in_ring ring vs) ++ c.queue) (sym e) ∙ ap (λ (x : List (Payload A)). sent_payloads d ring ++ x) (sym q);
     }
 
 -- it isn't a payload handed over
@@ -276,12 +276,12 @@ proposed_speaks true did g m =
 
 pub done_said : {A : Type 0} → (c : Core A) (input : Input A) → IsNoSend (decide c input) → IsSpeaker c
     → (ring : RingId) (sent : List (Payload A)) → IsSaid c ring sent →
-    IsSaid (done c (decide c input)).core ring sent
+    IsSaid (transition_and_proposal c (decide c input)).core ring sent
 done_said c input n m ring sent s =
     proposed_said (may_propose_after (decide c input) && proposes (apply_transition c (decide c input)).core) _ ring sent
     (act_said c (decide c input) (guarded c input) n m ring sent s)
 
-pub done_speaks : {A : Type 0} → (c : Core A) (input : Input A) → Ordered c → IsSpeaker c → IsSpeaker (done c (decide c input)).core
+pub done_speaks : {A : Type 0} → (c : Core A) (input : Input A) → Ordered c → IsSpeaker c → IsSpeaker (transition_and_proposal c (decide c input)).core
 done_speaks c input o m =
     let e = (apply_transition c (decide c input)).core in
     proposed_speaks (may_propose_after (decide c input) && proposes e) (apply_transition c (decide c input))

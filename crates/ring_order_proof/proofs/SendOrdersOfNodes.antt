@@ -20,7 +20,7 @@ use Rattle.ring_payload.specs.Packing.{is_queued, AreQueued}
 use Rattle.ring_wire.specs.declared.message.Message.{Message}
 use Rattle.ring_wire.specs.declared.frame.Frame.{Frame}
 use Rattle.ring_core_spec.specs.Commits.{Configuration}
-use Rattle.ring_core_spec.specs.Recoveries.{rests}
+use Rattle.ring_core_spec.specs.Recoveries.{rest_messages}
 use Rattle.ring_core_spec.specs.declared.input.Input.{Input}
 use Rattle.ring_core_spec.specs.declared.input.Input.TheVariants.{Frame as FrameInput, Timeout as TimeInput, Send as SendInput}
 use Rattle.ring_core_spec.specs.declared.out.Out.{Out}
@@ -30,12 +30,12 @@ use Rattle.ring_core_spec.specs.Views.{front, mark, plan}
 use Rattle.ring_core_spec.specs.Deciding.{Transition, Ignore, Enqueue, Repeat, Announce, Invite, GiveUp, EnterGather, Agree, MergeJoin}
 use Rattle.ring_core_spec.specs.Deciding.{EnterGatherAndAgree, EnterGatherAndMergeJoin, Take, Visit, Fill, Learn, decide}
 use Rattle.ring_core_spec.specs.Deciding.{decide_payload}
-use Rattle.ring_core_spec.specs.Transitions.{done}
-use Rattle.ring_core_spec.specs.Giving.{may_install, install, addressed, sent, users, agreed_from, safe_from, delivered_from, given, installation_outputs, settle}
-use Rattle.ring_core_spec.specs.Giving.{delivered}
+use Rattle.ring_core_spec.specs.Transitions.{transition_and_proposal}
+use Rattle.ring_core_spec.specs.Giving.{may_install, install, sends_with_receivers, sent, user_messages_between, agreed_from, safe_from, delivered_from, agreed_and_safe_of_step, installation_outputs, with_installation_if}
+use Rattle.ring_core_spec.specs.Giving.{step_result}
 use Rattle.ring_core_spec.specs.Stepping.{ring_step}
 use Rattle.ring_core_proof.specs.FactWords.{IsIn}
-use Rattle.ring_core_proof.specs.LawWords.{IsInputOf}
+use Rattle.ring_core_proof.specs.LawConditions.{IsInputOf}
 use Rattle.ring_core_proof.proofs.Causes.{caused}
 use Rattle.ring_core_proof.proofs.InLists.{each-in}
 use Rattle.ring_synchrony_proof.proofs.Ordered.{Ordered}
@@ -46,9 +46,9 @@ use Rattle.ring_node_spec.specs.declared.input.Input.{Input as NodeInput}
 use Rattle.ring_node_spec.specs.declared.input.Input.TheVariants.{Frame as NodeFrame, Noise as NodeNoise, Timeout as NodeTime, Stop as NodeStop}
 use Rattle.ring_node_spec.specs.EpochHistories.{epochs_after_event, epochs_after}
 use Rattle.ring_node_spec.specs.Nodes.{Node, node_opening, node_known_log, node_stopped, is_closed, is_restored}
-use Rattle.ring_node_spec.specs.DueSends.{due_by}
+use Rattle.ring_node_spec.specs.DueSends.{due_of_outputs}
 use Rattle.ring_node_spec.specs.Stepping.{NodeStepResult, handed_over, node_after_outputs, with_dropped, newly_committed, drops, did, settled, after_core, node_step, due_by_submit}
-use Rattle.ring_node_spec.specs.Stepping.{submit_fault, submitted}
+use Rattle.ring_node_spec.specs.Stepping.{submit_fault, node_after_submit}
 use Rattle.ring_log_proof.specs.RingFacts.{HasEpoch, EpochIn}
 use Rattle.ring_log_proof.specs.Discipline.{FollowsHead, OpensWithHead}
 use Rattle.ring_log_proof.proofs.RunEpochs.{IsOrderly}
@@ -60,8 +60,8 @@ use Rattle.ring_order_proof.proofs.DisciplinedNodes.{IsOrderlyNode, falls_from, 
 use Rattle.ring_order_proof.proofs.DisciplinedWorlds.{IsNodeKept, AllKept, run_on, opened_on}
 use Rattle.ring_node_spec.specs.declared.event.Event.{Event}
 use Rattle.ring_node_spec.specs.declared.event.Event.TheVariants.{Issue, Deliver, Noise, Timeout, Stop}
-use Rattle.ring_node_spec.specs.Worlds.{World, put, world_opening, is_node, issued_or, issued_if, stopped_if}
-use Rattle.ring_node_spec.specs.Worlds.{stepped_if, handed_if, handed, happens, run}
+use Rattle.ring_node_spec.specs.Worlds.{World, with_node, world_opening, is_node, world_after_submit, world_after_submit_if_member, world_after_stop_if_member}
+use Rattle.ring_node_spec.specs.Worlds.{world_after_input_if_member, world_after_receipt_if_sent, world_after_delivery, world_after_event, run}
 use Rattle.ring_node_spec.proofs.QueuedSends.{queued_all}
 use Rattle.ring_order_proof.specs.SentPayloads.{sent_payloads}
 use Rattle.ring_order_proof.specs.SendOrder.{SendsInOrder}
@@ -104,20 +104,20 @@ through_handed epochs (o ∷ outs) h = through_handed (epochs_after_event epochs
 delivered_regular : {A : Type 0} → (c : Core A) (ring : RingId) (f m : ℕ) → Each IsNoRegular (delivered_from c ring f m)
 delivered_regular {A} c ring f m =
     each-append IsNoRegular (agreed_from c ring f) (safe_from c ring m)
-    (each-map IsNoRegular (λ (x : Message A). Agreed ring x.number x) (users c ring f (front c ring)) (each-in _ _ (λ x k. tt)))
+    (each-map IsNoRegular (λ (x : Message A). Agreed ring x.number x) (user_messages_between c ring f (front c ring)) (each-in _ _ (λ x k. tt)))
     (cond_both _ (Safe ring (mark c ring) ∷ []) [] (Each IsNoRegular) (λ e. (tt, tt)) (λ e. tt))
 
-given_regular : {A : Type 0} → (c d : Core A) (sends : List (OutgoingFrame A)) → Each IsNoRegular (sent sends ++ given c d)
+given_regular : {A : Type 0} → (c d : Core A) (sends : List (OutgoingFrame A)) → Each IsNoRegular (sent sends ++ agreed_and_safe_of_step c d)
 given_regular {A} c d sends =
-    each-append IsNoRegular (sent sends) (given c d)
-    (each-map IsNoRegular (λ (s : OutgoingFrame A). SendOut s.to s.frame) (addressed sends) (each-in _ _ (λ x k. tt)))
+    each-append IsNoRegular (sent sends) (agreed_and_safe_of_step c d)
+    (each-map IsNoRegular (λ (s : OutgoingFrame A). SendOut s.to s.frame) (sends_with_receivers sends) (each-in _ _ (λ x k. tt)))
     (delivered_regular d c.installed.ring _ _)
 
 configured_handed : {A : Type 0} → (epochs : List (Epoch A)) (d : Core A) → handed_in (epochs_after epochs (installation_outputs d)) ≡ (d.running.ring, []) ∷ handed_in epochs
 configured_handed {A} epochs d =
-    let rest : List (Out A) = map (λ (x : Message A). Rest x.ring x.number x) (rests (plan d) d.held) in
+    let rest : List (Out A) = map (λ (x : Message A). Rest x.ring x.number x) (rest_messages (plan d) d.held) in
     let more : List (Out A) = delivered_from d d.running.ring 0 0 in
-    let silent : Each IsNoRegular rest = each-map IsNoRegular (λ (x : Message A). Rest x.ring x.number x) (rests (plan d) d.held) (each-in _ _ (λ x k. tt)) in
+    let silent : Each IsNoRegular rest = each-map IsNoRegular (λ (x : Message A). Rest x.ring x.number x) (rest_messages (plan d) d.held) (each-in _ _ (λ x k. tt)) in
     ap handed_in (through-append epochs rest (Regular d.running.ring d.running.members ∷ more))
     ∙ through_handed (epochs_after_event (epochs_after epochs rest) (Regular d.running.ring d.running.members)) more (delivered_regular d d.running.ring 0 0)
     ∙ ap (λ (hs : List (RingId × List (Payload A))). (d.running.ring, []) ∷ hs) (through_handed epochs rest silent)
@@ -132,7 +132,7 @@ each_installed d o e (s ∷ epochs) f h =
 
 settled_says : {A : Type 0} → (d : Core A) (outs : List (Out A)) (epochs : List (Epoch A)) (b : Bool) → may_install d ≡ b → Ordered d → IsSpeaker d →
     rings_of epochs ≡ installed_rings d.installs → Each IsNoRegular outs → AllSaid d (handed_in epochs) →
-    AllSaid (settle b d outs).core (handed_in (epochs_after epochs (settle b d outs).outs)) × IsSpeaker (settle b d outs).core
+    AllSaid (with_installation_if b d outs).core (handed_in (epochs_after epochs (with_installation_if b d outs).outs)) × IsSpeaker (with_installation_if b d outs).core
 settled_says {A} d outs epochs false e o m r n h = (subst (AllSaid d) (sym (through_handed epochs outs n)) h, m)
 settled_says {A} d outs epochs true e o m r n h =
     let s = installs_recovering d.state d e in
@@ -165,28 +165,28 @@ pub core_says : {A : Type 0} → (c : Core A) (input : Input A) (epochs : List (
     AllSaid (ring_step c input).core (handed_in (epochs_after epochs (ring_step c input).outs)) × IsSpeaker (ring_step c input).core
 unfolding ring_step
 core_says {A} c input epochs n o m r h =
-    let d = done c (decide c input) in
+    let d = transition_and_proposal c (decide c input) in
     let k = keeps_done c input o in
     let none = no_send c input (decide c input) (caused c input) n in
-    settled_says d.core (sent d.sends ++ given c d.core) epochs (may_install d.core) refl k.ordered (done_speaks c input o m)
+    settled_says d.core (sent d.sends ++ agreed_and_safe_of_step c d.core) epochs (may_install d.core) refl k.ordered (done_speaks c input o m)
     (r ∙ ap installed_rings (sym (k.keeps).installs)) (given_regular c d.core d.sends)
     (each-weaker (λ (x : RingId × List (Payload A)). IsSaid c x.0 x.1) (λ (x : RingId × List (Payload A)). IsSaid d.core x.0 x.1)
     (λ x s. done_said c input none m x.0 x.1 s) (handed_in epochs) h)
 
 -- The due payloads are handed over
 
-settled_core : {A : Type 0} → (b : Bool) (c : Core A) (outs : List (Out A)) → b ≡ false → (settle b c outs).core ≡ c
+settled_core : {A : Type 0} → (b : Bool) (c : Core A) (outs : List (Out A)) → b ≡ false → (with_installation_if b c outs).core ≡ c
 settled_core false c outs e = refl
 settled_core true c outs e = absurd cc
 
 sent_act : {A : Type 0} → (s : State) (c : Core A) (p : Payload A) → may_install c ≡ false → is_queued p ≡ true →
-    (delivered c (done c (decide_payload s p))).core ≡ with_queue c (queue_with s c.queue (p ∷ []))
+    (step_result c (transition_and_proposal c (decide_payload s p))).core ≡ with_queue c (queue_with s c.queue (p ∷ []))
 sent_act Gather c p h q = settled_core _ _ _ h
 sent_act Commit c p h q = settled_core _ _ _ h
 sent_act Recovery c p h q = settled_core _ _ _ h
 sent_act Stopped c p h q = settled_core _ _ _ h
 sent_act {A} Operational c p h q =
-    ap (λ (a : Transition A). (delivered c (done c a)).core) (cond-true (is_queued p) (Enqueue p) Ignore q)
+    ap (λ (a : Transition A). (step_result c (transition_and_proposal c a)).core) (cond-true (is_queued p) (Enqueue p) Ignore q)
     ∙ settled_core _ _ _ (installs_same c.state c (c.queue ++ p ∷ []) ∙ h)
 
 sent_one : {A : Type 0} → (c : Core A) (p : Payload A) → may_install c ≡ false → is_queued p ≡ true →
@@ -331,13 +331,13 @@ stops_says n h = record { speaks = halt_speaks n.core h.speaks; said = stopped_s
 after_says : {O A : Type 0} → (object : Sequential O) (n : Node A) (t : Bool) (core : Core A) (outs : List (Out A)) → NodeSays n → may_install core ≡ false →
     IsSpeaker core → AllSaid core (handed_in (epochs_after n.epochs outs)) →
     let epochs = epochs_after n.epochs outs in
-    let due = due_by object n core n.epochs outs in
+    let due = due_of_outputs object n core n.epochs outs in
     let new = (settled object t n (node_after_outputs n core epochs due) outs (known_log_of n.group epochs)).node in
     IsOrderlyNode new → HasQueued new.epochs → ((handed_over core due).installed ≡ core.installed) → NodeSays new
 after_says object n false core outs s ready m h o q i = stops_says n s
 after_says {O} {A} object n true core outs s ready m h o q i =
     let epochs = epochs_after n.epochs outs in
-    let due = due_by object n core n.epochs outs in
+    let due = due_of_outputs object n core n.epochs outs in
     let k = known_log_of n.group epochs in
     let new = node_after_outputs n core epochs due in
     let d = did object n new outs k (newly_committed (node_known_log n) k) in
@@ -356,7 +356,7 @@ input_says {O} {A} object n input other o s new q =
     let rings : rings_of n.epochs ≡ installed_rings n.core.installs = ap rings_of o.epochs ∙ o.rings in
     let k = core_says n.core input n.epochs other o.ordered s.speaks rings s.said in
     let ready : may_install c.core ≡ false = stepped_is n.core input in
-    let due = due_by object n c.core n.epochs c.outs in
+    let due = due_of_outputs object n c.core n.epochs c.outs in
     let epochs = epochs_after n.epochs c.outs in
     after_says object n (is_known_log_sound n.group epochs && is_restored object (known_log_of n.group epochs)) c.core c.outs s ready k.1 k.0 new q
     (ap (λ (x : Core A). x.installed) (queued_all c.core due ready).is)
@@ -370,10 +370,10 @@ node_says object n NodeNoise o s new q = s
 node_says object n NodeStop o s new q = stops_says n s
 
 submit_says : {A : Type 0} → (n : Node A) (c : OneCall A) → IsOrderlyNode n → NodeSays n
-    → IsOrderlyNode (submitted n c) → HasQueued (submitted n c).epochs → NodeSays (submitted n c)
+    → IsOrderlyNode (node_after_submit n c) → HasQueued (node_after_submit n c).epochs → NodeSays (node_after_submit n c)
 submit_says {A} n c o s new q =
     let due = due_by_submit n c in
-    handed_says (submitted n c) n.core n.epochs due refl refl new q o.ready
+    handed_says (node_after_submit n c) n.core n.epochs due refl refl new q o.ready
     (ap (λ (x : Core A). x.installed) (queued_all n.core due o.ready).is) s.speaks s.said
 
 -- Every world
@@ -383,39 +383,39 @@ AllSay w = (i : ℕ) → NodeSays (w.nodes i)
 
 module _ {O A : Type 0} (object : Sequential O) (group : Group) where
   -- one node became another
-  put_says : (nodes : ℕ → Node A) (i : ℕ) (n : Node A) → ((j : ℕ) → NodeSays (nodes j)) → ((j : ℕ) → IsNodeKept group (put nodes i n j)) →
-      (IsOrderlyNode n → HasQueued n.epochs → NodeSays n) → (j : ℕ) → NodeSays (put nodes i n j)
+  put_says : (nodes : ℕ → Node A) (i : ℕ) (n : Node A) → ((j : ℕ) → NodeSays (nodes j)) → ((j : ℕ) → IsNodeKept group (with_node nodes i n j)) →
+      (IsOrderlyNode n → HasQueued n.epochs → NodeSays n) → (j : ℕ) → NodeSays (with_node nodes i n j)
   put_says nodes i n s k f j =
-      let here : put nodes i n i ≡ n = cond-true (i == i) n (nodes i) (eq-eqb i i refl) in
+      let here : with_node nodes i n i ≡ n = cond-true (i == i) n (nodes i) (eq-eqb i i refl) in
       let kept : IsNodeKept group n = subst (IsNodeKept group) here (k i) in
       cond_both (j == i) n (nodes j) (λ (m : Node A). NodeSays m) (λ e. f kept.orderly (orderly_queued group n.epochs kept.keeps)) (λ e. s j)
 
   module _ (w : World A) (k : AllKept group w) (s : AllSay w) where
-    steps_say : (i : ℕ) (input : NodeInput A) (b : Bool) → AllKept group (stepped_if object b w i input) → AllSay (stepped_if object b w i input)
+    steps_say : (i : ℕ) (input : NodeInput A) (b : Bool) → AllKept group (world_after_input_if_member object b w i input) → AllSay (world_after_input_if_member object b w i input)
     steps_say i input false a = s
     steps_say i input true a = put_says w.nodes i _ s a (λ o q. node_says object (w.nodes i) input (k i).orderly (s i) o q)
 
-    issues_say_or : (i : ℕ) (c : OneCall A) (fault : Option Fault) → AllKept group (issued_or fault w i c) → AllSay (issued_or fault w i c)
+    issues_say_or : (i : ℕ) (c : OneCall A) (fault : Option Fault) → AllKept group (world_after_submit fault w i c) → AllSay (world_after_submit fault w i c)
     issues_say_or i c (Some fault) a = s
     issues_say_or i c None a = put_says w.nodes i _ s a (λ o q. submit_says (w.nodes i) c (k i).orderly (s i) o q)
 
-    issues_say : (i : ℕ) (c : OneCall A) (b : Bool) → AllKept group (issued_if b w i c) → AllSay (issued_if b w i c)
+    issues_say : (i : ℕ) (c : OneCall A) (b : Bool) → AllKept group (world_after_submit_if_member b w i c) → AllSay (world_after_submit_if_member b w i c)
     issues_say i c false a = s
     issues_say i c true a = issues_say_or i c (submit_fault (w.nodes i)) a
 
-    stops_say : (i : ℕ) (b : Bool) → AllKept group (stopped_if b w i) → AllSay (stopped_if b w i)
+    stops_say : (i : ℕ) (b : Bool) → AllKept group (world_after_stop_if_member b w i) → AllSay (world_after_stop_if_member b w i)
     stops_say i false a = s
     stops_say i true a = put_says w.nodes i _ s a (λ o q. stops_says (w.nodes i) (s i))
 
-    hands_say_if : (i : ℕ) (frame : Frame A) (b : Bool) → AllKept group (handed_if object b w i frame) → AllSay (handed_if object b w i frame)
+    hands_say_if : (i : ℕ) (frame : Frame A) (b : Bool) → AllKept group (world_after_receipt_if_sent object b w i frame) → AllSay (world_after_receipt_if_sent object b w i frame)
     hands_say_if i frame false a = s
     hands_say_if i frame true a = steps_say i (NodeFrame frame) (is_node w i) a
 
-    hands_say : (i : ℕ) (f : Option (Transmission A)) → AllKept group (handed object w i f) → AllSay (handed object w i f)
+    hands_say : (i : ℕ) (f : Option (Transmission A)) → AllKept group (world_after_delivery object w i f) → AllSay (world_after_delivery object w i f)
     hands_say i None a = s
     hands_say i (Some f) a = hands_say_if i f.frame (has f.to i) a
 
-    event_says : (e : Event A) → AllKept group (happens object w e) → AllSay (happens object w e)
+    event_says : (e : Event A) → AllKept group (world_after_event object w e) → AllSay (world_after_event object w e)
     event_says (Issue i c) a = issues_say i c (is_node w i) a
     event_says (Deliver i n) a = hands_say i (frame_at w.frames n) a
     event_says (Noise i bytes) a = s
@@ -425,8 +425,8 @@ module _ {O A : Type 0} (object : Sequential O) (group : Group) where
   run_says : (w : World A) → AllKept group w → AllSay w → (events : List (Event A)) → AllSay (run object w events)
   run_says w k s [] = s
   run_says w k s (e ∷ events) =
-      let next : AllKept group (happens object w e) = λ i. ((run_on object group w k (e ∷ [])).nodes i).kept in
-      run_says (happens object w e) next (event_says w k s e next) events
+      let next : AllKept group (world_after_event object w e) = λ i. ((run_on object group w k (e ∷ [])).nodes i).kept in
+      run_says (world_after_event object w e) next (event_says w k s e next) events
 
 opening_says : {A : Type 0} → (group : Group) (me : ℕ) → NodeSays (node_opening {A = A} group me)
 opening_says {A} group me =

@@ -18,20 +18,20 @@ use Rattle.ring_core_spec.specs.declared.out.Out.TheVariants.{Send as SendOut, A
 use Rattle.ring_core_spec.specs.State.{Core}
 use Rattle.ring_core_spec.specs.Stepping.{ring_step}
 use Rattle.ring_log.specs.Epochs.{Epoch, epochs_with_sends, epochs_with_trim}
-use Rattle.ring_log.specs.EpochHistories.{upto}
+use Rattle.ring_log.specs.EpochHistories.{messages_upto}
 use Rattle.ring_log.specs.Logs.{committed_calls, is_due_to_trim}
 use Rattle.ring_log.specs.KnownLog.{KnownLog, known_log_of, retained_log, is_known_log_sound}
 use Rattle.ring_log_proof.specs.RingFacts.{HasEpoch}
-use Rattle.ring_log_proof.specs.Time.{IsEpochsExtended}
+use Rattle.ring_log_proof.specs.EpochEvents.{IsEpochsExtended}
 use Rattle.ring_node_spec.specs.declared.input.Input.{Input as NodeInput}
 use Rattle.ring_node_spec.specs.declared.input.Input.TheVariants.{Frame as NodeFrame, Noise as NodeNoise, Timeout as NodeTime, Stop as NodeStop}
-use Rattle.ring_node_spec.specs.DueSends.{due_by}
+use Rattle.ring_node_spec.specs.DueSends.{due_of_outputs}
 use Rattle.ring_node_spec.specs.EpochHistories.{epochs_after_event, epochs_after}
 use Rattle.ring_node_spec.specs.Nodes.{Node, node_known_log, snapshot_at, snapshot_kept, is_restored, is_closed, runs_adopted}
-use Rattle.ring_node_spec.specs.Stepping.{NodeStepResult, node_after_outputs, with_dropped, newly_committed, drops, ended, did, settled, after_core, node_step, due_by_submit, submitted}
+use Rattle.ring_node_spec.specs.Stepping.{NodeStepResult, node_after_outputs, with_dropped, newly_committed, drops, step_after_trim, did, settled, after_core, node_step, due_by_submit, node_after_submit}
 use Rattle.ring_node_spec.specs.declared.event.Event.{Event}
 use Rattle.ring_node_spec.specs.Worlds.{world_opening, run}
-use Rattle.ring_order_proof.specs.Between.{stepped_node}
+use Rattle.ring_order_proof.specs.MidStep.{stepped_node}
 use Rattle.ring_order_proof.proofs.DisciplinedNodes.{IsOrderlyNode}
 use Rattle.ring_order_proof.proofs.HonestPieces.{IsPieceOf}
 use Rattle.ring_order_proof.proofs.KeptByNodes.{all_have_orderly}
@@ -74,9 +74,9 @@ module _ {O A : Type 0} (object : Sequential O) where
 
   -- with the due payloads handed over
   node_after_outputs-own : (n : Node A) (core : Core A) (outs : List (Out A)) → Ends object n core n.epochs outs → HandsOwn n
-      → HandsOwn (node_after_outputs n core (epochs_after n.epochs outs) (due_by object n core n.epochs outs))
+      → HandsOwn (node_after_outputs n core (epochs_after n.epochs outs) (due_of_outputs object n core n.epochs outs))
   node_after_outputs-own n core outs e k =
-      let due = due_by object n core n.epochs outs in
+      let due = due_of_outputs object n core n.epochs outs in
       let now : AllPieces n.group (e.epoch ∷ e.older) = subst (AllPieces n.group) e.is (pieces-through n.group n.epochs outs k.pieces) in
       record {
         frozen = frozen-epochs_with_sends n.group due (epochs_after n.epochs outs) (frozen-through n.group n.epochs outs k.frozen);
@@ -85,9 +85,9 @@ module _ {O A : Type 0} (object : Sequential O) where
       }
 
   -- a step: it has no outputs, or places are dropped at its end
-  ended-own : (closed : Bool) (k : KnownLog A) (s : NodeStepResult A) → (closed ≡ true → is_closed s.node.group s.node.epochs ≡ true) → HandsOwn s.node
-      → HandsOwn (ended object closed k s).node
-  ended-own closed k s c h =
+  step_after_trim-own : (closed : Bool) (k : KnownLog A) (s : NodeStepResult A) → (closed ≡ true → is_closed s.node.group s.node.epochs ≡ true) → HandsOwn s.node
+      → HandsOwn (step_after_trim object closed k s).node
+  step_after_trim-own closed k s c h =
       cond_both (drops object closed k) (record s { node = with_dropped k.committed s.node; dropped = committed_calls (retained_log k) }) s
       (λ (x : NodeStepResult A). HandsOwn x.node)
       (λ t.
@@ -103,14 +103,14 @@ module _ {O A : Type 0} (object : Sequential O) where
       → HandsOwn (settled object b old new outs k).node
   settled-own false old new outs k same h g = record { frozen = h.frozen; pieces = h.pieces }
   settled-own true old new outs k same h g =
-      ended-own (is_closed old.group new.epochs) k (did object old new outs k (newly_committed (node_known_log old) k))
+      step_after_trim-own (is_closed old.group new.epochs) k (did object old new outs k (newly_committed (node_known_log old) k))
       (λ t. ap (λ group. is_closed group new.epochs) same ∙ t) (record { frozen = g.frozen; pieces = g.pieces })
 
   core-own : (n : Node A) (input : Input A) → IsOrderlyNode n → HandsOwn n → HandsOwn (after_core object n (ring_step n.core input)).node
   core-own n input o k =
       let s = ring_step n.core input in
       let epochs = epochs_after n.epochs s.outs in
-      let due = due_by object n s.core n.epochs s.outs in
+      let due = due_of_outputs object n s.core n.epochs s.outs in
       let ends : Ends object n s.core n.epochs s.outs =
       subst (λ (l : List (Epoch A)). Ends object n s.core l s.outs) (sym o.epochs)
       (core-ends object n o.epoch o.older input o.ordered (subst (IsFrozen n.group) o.epochs k.frozen)) in
@@ -130,7 +130,7 @@ module _ {O A : Type 0} (object : Sequential O) where
   epochs_with_sends-call group due h (s ∷ older) k =
       (each-append (IsPieceOf (snapshot_kept object (known_log_of group older))) s.sent due k.0 (h (snapshot_kept object (known_log_of group older))), k.1)
 
-  submit-own : (n : Node A) (c : OneCall A) → HandsOwn n → HandsOwn (submitted n c)
+  submit-own : (n : Node A) (c : OneCall A) → HandsOwn n → HandsOwn (node_after_submit n c)
   submit-own n c k =
       let due = due_by_submit n c in
       record {

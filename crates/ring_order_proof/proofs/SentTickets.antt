@@ -23,17 +23,17 @@ use Rattle.ring_log.specs.Exchanges.{Exchange, exchange_opening, wanted, is_exch
 use Rattle.ring_log.specs.Logs.{Log, committed_calls}
 use Rattle.ring_log.specs.Parts.{parts_between, pieces_of}
 use Rattle.ring_log.specs.Epochs.{Epoch}
-use Rattle.ring_log.specs.EpochHistories.{after_all}
-use Rattle.ring_session.specs.Tickets.{TicketCall, unanswered}
+use Rattle.ring_log.specs.EpochHistories.{exchange_after_messages}
+use Rattle.ring_session.specs.Tickets.{TicketCall, unanswered_tickets}
 use Rattle.ring_node_spec.specs.EpochHistories.{epochs_after_event, epochs_after}
-use Rattle.ring_node_spec.specs.Nodes.{Node, node_known_log, node_pending, node_stopped, snapshot_kept, is_closed, is_restored, runs, runs_adopted}
-use Rattle.ring_node_spec.specs.DueSends.{has_all_heads, places_past, parts_due, snaps_due, is_snapshot_kept, places_due, owner_due, due_when_heads_complete, calls_due}
-use Rattle.ring_node_spec.specs.DueSends.{due_when_complete, due_between, due_in_epoch, due_at_agreed, due_at, due_by}
+use Rattle.ring_node_spec.specs.Nodes.{Node, node_known_log, node_pending, node_stopped, snapshot_kept, is_closed, is_restored, is_core_running_in, runs_adopted}
+use Rattle.ring_node_spec.specs.DueSends.{has_all_heads, uncommitted_places, parts_due, snaps_due, is_snapshot_kept, places_due, owner_due, due_when_heads_complete, calls_due}
+use Rattle.ring_node_spec.specs.DueSends.{due_when_complete, due_between, due_in_epoch, due_at_agreed, due_at_output, due_of_outputs}
 use Rattle.ring_node_spec.specs.declared.input.Input.{Input}
 use Rattle.ring_node_spec.specs.declared.input.Input.TheVariants.{Frame, Noise, Timeout, Stop}
-use Rattle.ring_node_spec.specs.Stepping.{NodeStepResult, with_dropped, newly_committed, drops, did, settled, node_after_outputs, after_core, node_step, due_by_submit, submitted}
-use Rattle.ring_log_proof.specs.Time.{IsKnownCall, Handed as HandedEvent, Agreed as AgreedEvent, Safe as SafeEvent, Regular as RegularEvent}
-use Rattle.ring_log_proof.specs.Time.{Dropped as DroppedEvent}
+use Rattle.ring_node_spec.specs.Stepping.{NodeStepResult, with_dropped, newly_committed, drops, did, settled, node_after_outputs, after_core, node_step, due_by_submit, node_after_submit}
+use Rattle.ring_log_proof.specs.EpochEvents.{IsKnownCall, Handed as HandedEvent, Agreed as AgreedEvent, Safe as SafeEvent, Regular as RegularEvent}
+use Rattle.ring_log_proof.specs.EpochEvents.{Dropped as DroppedEvent}
 use Rattle.ring_log_proof.proofs.RunEpochs.{LifeHands, event-known}
 use Rattle.ring_log.specs.KnownLog.{KnownLog, known_log_of, retained_log, known_log_head, is_known_log_sound}
 
@@ -85,9 +85,9 @@ module _ {A : Type 0} (Known : OneCall A → Type 0) where
   owner-known me bytes log (Some w) = none-known (w.owner == me) (places_due bytes log w w.snapshot) (places-known bytes log w w.snapshot)
 
   calls-known : (tickets : List (TicketCall A)) (done calls : List (OneCall A)) → Each (λ (t : TicketCall A). Known t.call) tickets
-      → AreKnown (calls_due (unanswered done tickets) calls)
+      → AreKnown (calls_due (unanswered_tickets done tickets) calls)
   calls-known tickets done calls h =
-      each-map (IsKnownCall Known) (λ (t : TicketCall A). Call t.call) _ (each-filter _ _ (unanswered done tickets) (each-filter _ _ tickets h))
+      each-map (IsKnownCall Known) (λ (t : TicketCall A). Call t.call) _ (each-filter _ _ (unanswered_tickets done tickets) (each-filter _ _ tickets h))
 
   pub stopped-known : (n : Node A) → NodeKnows n → NodeKnows (node_stopped n)
   stopped-known n k = record { tickets = k.tickets; sent = k.sent }
@@ -98,7 +98,7 @@ module _ {A : Type 0} (Known : OneCall A → Type 0) where
     between-known n before epochs old new h =
         let k = known_log_of n.group before in
         let bytes = snapshot_kept object k in
-        let past = places_past (node_known_log n).committed (retained_log (known_log_of n.group epochs)) in
+        let past = uncommitted_places (node_known_log n).committed (retained_log (known_log_of n.group epochs)) in
         each-append (IsKnownCall Known) (due_when_heads_complete n.core.me bytes (retained_log k) old new) (due_when_complete n epochs old new)
         (none-known (has_all_heads new && not (has_all_heads old)) (owner_due n.core.me bytes (retained_log k) (wanted new))
         (owner-known n.core.me bytes (retained_log k) (wanted new)))
@@ -109,13 +109,13 @@ module _ {A : Type 0} (Known : OneCall A → Type 0) where
         → AreKnown (due_at_agreed object n core ring before x epochs)
     agreed-known n core ring [] x epochs h = tt
     agreed-known n core ring (s ∷ older) x epochs h =
-        let old = after_all (exchange_opening s.members) s.heard in
-        let new = after_all (exchange_opening s.members) (s.heard ++ x ∷ []) in
-        none-known (runs core ring) (due_in_epoch object n s (s ∷ older) x epochs)
+        let old = exchange_after_messages (exchange_opening s.members) s.heard in
+        let new = exchange_after_messages (exchange_opening s.members) (s.heard ++ x ∷ []) in
+        none-known (is_core_running_in core ring) (due_in_epoch object n s (s ∷ older) x epochs)
         (none-known (is_primary n.group s.members) (due_between object n (s ∷ older) epochs old new) (between-known n (s ∷ older) epochs old new h))
 
     due-known : (n : Node A) (core : Core A) (epochs : List (Epoch A)) (o : Out A) → Each (λ (t : TicketCall A). Known t.call) n.tickets
-        → AreKnown (due_at object n core epochs o)
+        → AreKnown (due_at_output object n core epochs o)
     due-known n core epochs (Agreed ring k x) h = agreed-known n core ring epochs x (epochs_after_event epochs (Agreed ring k x)) h
     due-known n core epochs (Regular ring set) h = none-known (is_primary n.group set) (Head (known_log_head (known_log_of n.group epochs)) ∷ []) (tt, tt)
     due-known n core epochs (Send to frame) h = tt
@@ -124,19 +124,19 @@ module _ {A : Type 0} (Known : OneCall A → Type 0) where
     due-known n core epochs (Rest ring k x) h = tt
 
     due_sends-known : (n : Node A) (core : Core A) (epochs : List (Epoch A)) (outs : List (Out A)) → Each (λ (t : TicketCall A). Known t.call) n.tickets
-        → AreKnown (due_by object n core epochs outs)
+        → AreKnown (due_of_outputs object n core epochs outs)
     due_sends-known n core epochs [] h = tt
     due_sends-known n core epochs (o ∷ outs) h =
-        each-append (IsKnownCall Known) (due_at object n core epochs o) (due_by object n core (epochs_after_event epochs o) outs) (due-known n core epochs o h)
+        each-append (IsKnownCall Known) (due_at_output object n core epochs o) (due_of_outputs object n core (epochs_after_event epochs o) outs) (due-known n core epochs o h)
         (due_sends-known n core (epochs_after_event epochs o) outs h)
 
     -- Steps
 
     node_after_outputs-known : (n : Node A) (core : Core A) (outs : List (Out A)) → NodeKnows n
-        → NodeKnows (node_after_outputs n core (epochs_after n.epochs outs) (due_by object n core n.epochs outs))
+        → NodeKnows (node_after_outputs n core (epochs_after n.epochs outs) (due_of_outputs object n core n.epochs outs))
     node_after_outputs-known n core outs k = record {
       tickets = k.tickets;
-      sent = event-known Known (epochs_after n.epochs outs) (HandedEvent (due_by object n core n.epochs outs)) (due_sends-known n core n.epochs outs k.tickets)
+      sent = event-known Known (epochs_after n.epochs outs) (HandedEvent (due_of_outputs object n core n.epochs outs)) (due_sends-known n core n.epochs outs k.tickets)
           (through-known n.epochs outs k.sent);
     }
 
@@ -154,7 +154,7 @@ module _ {A : Type 0} (Known : OneCall A → Type 0) where
     core-known n s h =
         let epochs = epochs_after n.epochs s.outs in
         settled-known (is_known_log_sound n.group epochs && is_restored object (known_log_of n.group epochs)) n
-        (node_after_outputs n s.core epochs (due_by object n s.core n.epochs s.outs)) s.outs (known_log_of n.group epochs) h (node_after_outputs-known n s.core s.outs h)
+        (node_after_outputs n s.core epochs (due_of_outputs object n s.core n.epochs s.outs)) s.outs (known_log_of n.group epochs) h (node_after_outputs-known n s.core s.outs h)
 
     pub step-known : (n : Node A) (input : Input A) → NodeKnows n → NodeKnows (node_step object n input).node
     step-known n (Frame frame) k = core-known n (ring_step n.core (FrameInput frame)) k
@@ -164,7 +164,7 @@ module _ {A : Type 0} (Known : OneCall A → Type 0) where
 
   -- Submits
 
-  pub submitted-known : (n : Node A) (c : OneCall A) → Known c → NodeKnows n → NodeKnows (submitted n c)
+  pub submitted-known : (n : Node A) (c : OneCall A) → Known c → NodeKnows n → NodeKnows (node_after_submit n c)
   submitted-known n c h k = record {
     tickets = each-push (λ (t : TicketCall A). Known t.call) n.tickets _ k.tickets h;
     sent = event-known Known n.epochs (HandedEvent (due_by_submit n c)) (none-known (runs_adopted n) (Call c ∷ []) (h, tt)) k.sent;

@@ -8,9 +8,9 @@ use Rattle.ring_base.proofs.Each.{each-append}
 use Rattle.ring_core_spec.specs.declared.input.Input.{Input}
 use Rattle.ring_core_spec.specs.declared.out.Out.{Out}
 use Rattle.ring_core_spec.specs.declared.out.Out.TheVariants.{Send, Agreed, Safe, Trans, Rest, Regular}
-use Rattle.ring_core_spec.specs.Transitions.{done}
+use Rattle.ring_core_spec.specs.Transitions.{transition_and_proposal}
 use Rattle.ring_core_spec.specs.Deciding.{decide}
-use Rattle.ring_core_spec.specs.Giving.{addressed, sent, given, installation_outputs, settle, may_install, send_of}
+use Rattle.ring_core_spec.specs.Giving.{sends_with_receivers, sent, agreed_and_safe_of_step, installation_outputs, with_installation_if, may_install, send_of}
 use Rattle.ring_core_spec.specs.State.{Core, OutgoingFrame}
 use Rattle.ring_core_spec.specs.Stepping.{ring_step}
 use Rattle.ring_core_proof.proofs.Lifting.{IsTold, told_from, told_configured}
@@ -31,20 +31,20 @@ all_sent : {A : Type 0} → (sends : List (OutgoingFrame A)) → filter_map send
 all_sent [] = refl
 all_sent (s ∷ sends) = ap (λ xs. s ∷ xs) (all_sent sends)
 
-only_sent : {A : Type 0} → (sends : List (OutgoingFrame A)) (told : List (Out A)) → Each IsTold told → filter_map send_of (sent sends ++ told) ≡ addressed sends
+only_sent : {A : Type 0} → (sends : List (OutgoingFrame A)) (told : List (Out A)) → Each IsTold told → filter_map send_of (sent sends ++ told) ≡ sends_with_receivers sends
 only_sent {A} sends told h =
-    filter_map-append send_of (sent sends) told ∙ ap (λ xs. xs ++ filter_map send_of told) (all_sent (addressed sends))
-    ∙ ap (λ xs. addressed sends ++ xs) (none_sent told h) ∙ append-nil (addressed sends)
+    filter_map-append send_of (sent sends) told ∙ ap (λ xs. xs ++ filter_map send_of told) (all_sent (sends_with_receivers sends))
+    ∙ ap (λ xs. sends_with_receivers sends ++ xs) (none_sent told h) ∙ append-nil (sends_with_receivers sends)
 
 settled_sends : {A : Type 0} → (old c : Core A) (sends : List (OutgoingFrame A)) (b : Bool) →
-    filter_map send_of (settle b c (sent sends ++ given old c)).outs ≡ addressed sends
-settled_sends old c sends false = only_sent sends (given old c) (told_from c old.installed.ring _ _)
+    filter_map send_of (with_installation_if b c (sent sends ++ agreed_and_safe_of_step old c)).outs ≡ sends_with_receivers sends
+settled_sends old c sends false = only_sent sends (agreed_and_safe_of_step old c) (told_from c old.installed.ring _ _)
 settled_sends {A} old c sends true =
-    let told : Each IsTold (given old c ++ installation_outputs c) =
-    each-append IsTold (given old c) (installation_outputs c) (told_from c old.installed.ring _ _) (told_configured c) in
-    subst (λ (outs : List (Out A)). filter_map send_of outs ≡ addressed sends) (sym (append_assoc (sent sends) (given old c) (installation_outputs c)))
-    (only_sent sends (given old c ++ installation_outputs c) told)
+    let told : Each IsTold (agreed_and_safe_of_step old c ++ installation_outputs c) =
+    each-append IsTold (agreed_and_safe_of_step old c) (installation_outputs c) (told_from c old.installed.ring _ _) (told_configured c) in
+    subst (λ (outs : List (Out A)). filter_map send_of outs ≡ sends_with_receivers sends) (sym (append_assoc (sent sends) (agreed_and_safe_of_step old c) (installation_outputs c)))
+    (only_sent sends (agreed_and_safe_of_step old c ++ installation_outputs c) told)
 
-pub step_sends : {A : Type 0} → (c : Core A) (i : Input A) → filter_map send_of (ring_step c i).outs ≡ addressed (done c (decide c i)).sends
+pub step_sends : {A : Type 0} → (c : Core A) (i : Input A) → filter_map send_of (ring_step c i).outs ≡ sends_with_receivers (transition_and_proposal c (decide c i)).sends
 unfolding ring_step
-step_sends c i = let did = done c (decide c i) in settled_sends c did.core did.sends (may_install did.core)
+step_sends c i = let did = transition_and_proposal c (decide c i) in settled_sends c did.core did.sends (may_install did.core)

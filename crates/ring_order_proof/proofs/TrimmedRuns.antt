@@ -14,16 +14,16 @@ use Rattle.ring_core_spec.specs.declared.input.Input.TheVariants.{Frame as CoreF
 use Rattle.ring_core_spec.specs.declared.out.Out.{Out}
 use Rattle.ring_core_spec.specs.State.{Core, StepResult}
 use Rattle.ring_core_spec.specs.Stepping.{ring_step}
-use Rattle.ring_log.specs.KnownLog.{KnownLog, known_log_opening, kept_by, dropped_by, known_log_of, known_log_length, retained_log, is_known_log_sound}
+use Rattle.ring_log.specs.KnownLog.{KnownLog, known_log_opening, known_log_after_epoch, dropped_by, known_log_of, known_log_length, retained_log, is_known_log_sound}
 use Rattle.ring_log.specs.EpochHistories.{CompleteExchange, complete_exchange}
 use Rattle.ring_log.specs.Logs.{committed_calls, trim_after, is_due_to_trim}
-use Rattle.ring_log.specs.Epochs.{Epoch, epochs_opening, epochs_with_sends, epochs_with_trim}
+use Rattle.ring_log.specs.Epochs.{Epoch, history_opening_of, epochs_with_sends, epochs_with_trim}
 use Rattle.ring_log.proofs.CommittedOf.{epochs_with_sends-kept}
 use Rattle.ring_log_proof.proofs.KnownLogSuffixes.{kept-short}
-use Rattle.ring_node_spec.specs.DueSends.{due_by}
+use Rattle.ring_node_spec.specs.DueSends.{due_of_outputs}
 use Rattle.ring_node_spec.specs.EpochHistories.{epochs_after}
 use Rattle.ring_node_spec.specs.Nodes.{Node, node_opening, node_known_log, is_closed, is_restored, snapshot_at}
-use Rattle.ring_node_spec.specs.Stepping.{NodeStepResult, node_after_outputs, with_dropped, newly_committed, drops, ended, did, settled, after_core, node_step, due_by_submit, submitted}
+use Rattle.ring_node_spec.specs.Stepping.{NodeStepResult, node_after_outputs, with_dropped, newly_committed, drops, step_after_trim, did, settled, after_core, node_step, due_by_submit, node_after_submit}
 use Rattle.ring_node_spec.specs.declared.event.Event.{Event}
 use Rattle.ring_node_spec.specs.declared.input.Input.{Input}
 use Rattle.ring_node_spec.specs.declared.input.Input.TheVariants.{Frame as FrameInput, Noise as NoiseInput, Timeout as TimeInput, Stop as StopInput}
@@ -51,11 +51,11 @@ epochs_with_trim-unripe group places (s ∷ older) is =
     let none : now.committed - now.trimmed ≡ 0 = omega (arith, is) in
     ap (nat_le trim_after) none
 
-pub epochs_opening-kept : (A : Type 0) (group : Group) (me : ℕ) → known_log_of group (epochs_opening {A = A} me) ≡ dropped_by 0 known_log_opening
-epochs_opening-kept A group me =
+pub history_opening_of-kept : (A : Type 0) (group : Group) (me : ℕ) → known_log_of group (history_opening_of {A = A} me) ≡ dropped_by 0 known_log_opening
+history_opening_of-kept A group me =
     let none : complete_exchange {A = A} group (only me) [] ≡ None = cond_both (is_primary group (only me)) None None (λ (o : Option (CompleteExchange A)). o ≡ None) (λ t. refl)
     (λ f. refl) in
-    ap (λ (o : Option (CompleteExchange A)). dropped_by 0 (kept_by (record { seq = 0; rep = me }) known_log_opening o o)) none
+    ap (λ (o : Option (CompleteExchange A)). dropped_by 0 (known_log_after_epoch (record { seq = 0; rep = me }) known_log_opening o o)) none
 
 module _ {O A : Type 0} (object : Sequential O) where
   pub drops-unripe : (closed : Bool) (k : KnownLog A) → is_due_to_trim (retained_log k) ≡ false → drops object closed k ≡ false
@@ -70,9 +70,9 @@ module _ {O A : Type 0} (object : Sequential O) where
 
   -- A step
 
-  ended-none : (closed : Bool) (k : KnownLog A) (s : NodeStepResult A) → closed ≡ is_closed s.node.group s.node.epochs → k ≡ node_known_log s.node
-      → known_log_length k ≤ max_number → IsUndropping (ended object closed k s).node
-  ended-none closed k s shut kept short =
+  step_after_trim-none : (closed : Bool) (k : KnownLog A) (s : NodeStepResult A) → closed ≡ is_closed s.node.group s.node.epochs → k ≡ node_known_log s.node
+      → known_log_length k ≤ max_number → IsUndropping (step_after_trim object closed k s).node
+  step_after_trim-none closed k s shut kept short =
       let dropped : NodeStepResult A = record s { node = with_dropped k.committed s.node; dropped = committed_calls (retained_log k) } in
       cond_both (drops object closed k) dropped s (λ (x : NodeStepResult A). IsUndropping x.node)
       (λ t. record {
@@ -94,13 +94,13 @@ module _ {O A : Type 0} (object : Sequential O) where
   settled-none false n core outs epochs due sound h = record { none = h.none; short = h.short }
   settled-none true n core outs epochs due sound h =
       let k = known_log_of n.group epochs in
-      ended-none (is_closed n.group (epochs_with_sends due epochs)) k (did object n (node_after_outputs n core epochs due) outs k (newly_committed (node_known_log n) k)) refl
+      step_after_trim-none (is_closed n.group (epochs_with_sends due epochs)) k (did object n (node_after_outputs n core epochs due) outs k (newly_committed (node_known_log n) k)) refl
       (sym (epochs_with_sends-kept n.group due epochs)) (leb-true (known_log_length k) max_number (kept-short n.group epochs (sound refl)))
 
   core-none : (n : Node A) (s : StepResult A) → IsUndropping n → IsUndropping (after_core object n s).node
   core-none n s h =
       let epochs = epochs_after n.epochs s.outs in
-      settled-none (is_known_log_sound n.group epochs && is_restored object (known_log_of n.group epochs)) n s.core s.outs epochs (due_by object n s.core n.epochs s.outs)
+      settled-none (is_known_log_sound n.group epochs && is_restored object (known_log_of n.group epochs)) n s.core s.outs epochs (due_of_outputs object n s.core n.epochs s.outs)
       (λ t. (and_parts (is_known_log_sound n.group epochs) (is_restored object (known_log_of n.group epochs)) t).0) h
 
   step-none : (n : Node A) (input : Input A) → IsUndropping n → IsUndropping (node_step object n input).node
@@ -114,18 +114,18 @@ module _ {O A : Type 0} (object : Sequential O) where
   opening-none : (group : Group) (me : ℕ) → IsUndropping (node_opening {A = A} group me)
   opening-none group me =
       let n : Node A = node_opening group me in
-      let same = epochs_opening-kept A group me in
+      let same = history_opening_of-kept A group me in
       record {
         none = drops-unripe (is_closed n.group n.epochs) (node_known_log n) (ap (λ (k : KnownLog A). is_due_to_trim (retained_log k)) same);
         short = (let own = ap (λ (k : KnownLog A). known_log_length k) same in omega (arith, own));
       }
 
-  submit-none : (n : Node A) (c : OneCall A) → IsUndropping n → IsUndropping (submitted n c)
+  submit-none : (n : Node A) (c : OneCall A) → IsUndropping n → IsUndropping (node_after_submit n c)
   submit-none n c h =
       let due = due_by_submit n c in
       let same = epochs_with_sends-kept n.group due n.epochs in
       record {
-        none = ap (λ b. drops object b (node_known_log (submitted n c))) (epochs_with_sends-closed n.group due n.epochs)
+        none = ap (λ b. drops object b (node_known_log (node_after_submit n c))) (epochs_with_sends-closed n.group due n.epochs)
             ∙ ap (drops object (is_closed n.group n.epochs)) same ∙ h.none;
         short = (let own = ap (λ (k : KnownLog A). known_log_length k) same in let l = h.short in omega (arith, own, l));
       }

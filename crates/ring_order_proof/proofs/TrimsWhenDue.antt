@@ -10,7 +10,7 @@ use Rattle.ring_base.specs.Prefixes.{IsListPrefix}
 use Rattle.ring_base.specs.Group.{Group}
 use Rattle.ring_base.specs.Processors.{IsProc, has}
 use Rattle.ring_base.specs.declared.fault.Fault.{Fault}
-use Rattle.ring_base.specs.declared.kind.Kind.{Kind}
+use Rattle.ring_base.specs.declared.timeout_kind.Kind.{Kind}
 use Rattle.ring_base.proofs.Each.{each-append}
 use Rattle.ring_base.proofs.ListFronts.{take-front}
 use Rattle.ring_object.specs.Operations.{Sequential}
@@ -33,21 +33,21 @@ use Rattle.ring_log.specs.EpochHistories.{log_of, committed_of}
 use Rattle.ring_log.proofs.CommittedOf.{epochs_with_sends-kept}
 use Rattle.ring_session.specs.Snapshots.{table_snapshot}
 use Rattle.ring_session.specs.Table.{table_after}
-use Rattle.ring_node_spec.specs.DueSends.{due_by}
+use Rattle.ring_node_spec.specs.DueSends.{due_of_outputs}
 use Rattle.ring_node_spec.specs.EpochHistories.{epochs_after}
 use Rattle.ring_node_spec.specs.Nodes.{Node, node_stopped, node_known_log, is_closed, is_restored, snapshot_at}
 use Rattle.ring_node_spec.specs.Stepping.{NodeStepResult, node_after_outputs, with_dropped, newly_committed, drops, did, settled}
-use Rattle.ring_node_spec.specs.Stepping.{after_core, node_step, submit_fault, due_by_submit, submitted}
+use Rattle.ring_node_spec.specs.Stepping.{after_core, node_step, submit_fault, due_by_submit, node_after_submit}
 use Rattle.ring_node_spec.specs.declared.event.Event.{Event}
 use Rattle.ring_node_spec.specs.declared.event.Event.TheVariants.{Issue, Deliver, Noise, Timeout, Stop}
 use Rattle.ring_node_spec.specs.declared.input.Input.TheVariants.{Frame as NodeFrame, Timeout as NodeTime}
-use Rattle.ring_node_spec.specs.Worlds.{World, put, world_opening, is_node, issued_or, issued_if, stopped_if, stepped_if}
-use Rattle.ring_node_spec.specs.Worlds.{handed_if, handed, happens, run}
-use Rattle.ring_order_proof.specs.Between.{MayCome, stepped_node, between}
-use Rattle.ring_order_proof.specs.Linear.{EventKeeps}
+use Rattle.ring_node_spec.specs.Worlds.{World, with_node, world_opening, is_node, world_after_submit, world_after_submit_if_member, world_after_stop_if_member, world_after_input_if_member}
+use Rattle.ring_node_spec.specs.Worlds.{world_after_receipt_if_sent, world_after_delivery, world_after_event, run}
+use Rattle.ring_order_proof.specs.MidStep.{MayCome, stepped_node, world_after_core_step}
+use Rattle.ring_order_proof.specs.Linear.{IsEventCallWithinLimits}
 use Rattle.ring_order_proof.specs.RunEpochs.{whole_epochs_in}
 use Rattle.ring_order_proof.proofs.Between.{between_on}
-use Rattle.ring_order_proof.proofs.BytesRestored.{knows-between, orderly-between}
+use Rattle.ring_order_proof.proofs.BytesRestored.{knows-world_after_core_step, orderly-world_after_core_step}
 use Rattle.ring_order_proof.proofs.ConsistentRuns.{run-more, orderly}
 use Rattle.ring_order_proof.proofs.DisciplinedWorlds.{opened_on}
 use Rattle.ring_order_proof.proofs.IssuedInWorlds.{WorldKnows, opening-knows, run-knows}
@@ -61,7 +61,7 @@ use Rattle.ring_order_proof.proofs.RestoredTables.{ComesBack}
 use Rattle.ring_order_proof.proofs.RunFacts.{node_is}
 use Rattle.ring_order_proof.proofs.SentPieces.{all_hand_own}
 use Rattle.ring_order_proof.proofs.TrimmedRuns.{epochs_with_sends-closed, epochs_with_trim-unripe}
-use Rattle.ring_order_proof.proofs.TrimmedRuns.{epochs_opening-kept, drops-unripe}
+use Rattle.ring_order_proof.proofs.TrimmedRuns.{history_opening_of-kept, drops-unripe}
 
 -- Two known logs with as many committed and dropped places
 
@@ -98,7 +98,7 @@ module _ {O A : Type 0} (object : Sequential O) (back : ComesBack object A) (gro
   abbrev HasNoneDue : Node A → Type 0
   HasNoneDue n = drops object true (node_known_log n) ≡ false
 
-  module _ (events : List (Event A)) (limits : Each EventKeeps events) where
+  module _ (events : List (Event A)) (limits : Each IsEventCallWithinLimits events) where
     abbrev w : World A
     w = at events
 
@@ -152,9 +152,9 @@ module _ {O A : Type 0} (object : Sequential O) (back : ComesBack object A) (gro
           let knows = subst (λ (k : KnownLog A). Knows object k (log_of group (whole_epochs_in w i))
           (committed_of group (whole_epochs_in w i))) (sym first)
           (know object group few back events limits i low high) in
-          let after = knows-between object group few events i input there comes back limits in
-          let grows = whole-grows group w (between w i input) (orderly object group few events)
-          (orderly-between object group few events i input there comes)
+          let after = knows-world_after_core_step object group few events i input there comes back limits in
+          let grows = whole-grows group w (world_after_core_step w i input) (orderly object group few events)
+          (orderly-world_after_core_step object group few events i input there comes)
           (between_on object group events i input few there comes) i in
           drops-quiet object (known_log_of group n.epochs)
           (known_log_of group (stepped_node n input).epochs) _ _ _ _ knows after grows (quiet input unclosed)
@@ -196,9 +196,9 @@ module _ {O A : Type 0} (object : Sequential O) (back : ComesBack object A) (gro
           let s = ring_step n.core input in
           let epochs = epochs_after n.epochs s.outs in
           settled-none input (is_known_log_sound n.group epochs && is_restored object (known_log_of n.group epochs))
-          (due_by object n s.core n.epochs s.outs) comes
+          (due_of_outputs object n s.core n.epochs s.outs) comes
 
-      submit-none : (c : Call A) → HasNoneDue (submitted n c)
+      submit-none : (c : Call A) → HasNoneDue (node_after_submit n c)
       submit-none c = ap (drops object true) (epochs_with_sends-kept n.group (due_by_submit n c) n.epochs) ∙ none
 
     -- An event
@@ -207,7 +207,7 @@ module _ {O A : Type 0} (object : Sequential O) (back : ComesBack object A) (gro
       abbrev AllNone : World A → Type 0
       AllNone v = (i : ℕ) → 1 ≤ i → i ≤ group.count → HasNoneDue (v.nodes i)
 
-      put-none : (i : ℕ) (m : Node A) → HasNoneDue m → (j : ℕ) → 1 ≤ j → j ≤ group.count → HasNoneDue (put w.nodes i m j)
+      put-none : (i : ℕ) (m : Node A) → HasNoneDue m → (j : ℕ) → 1 ≤ j → j ≤ group.count → HasNoneDue (with_node w.nodes i m j)
       put-none i m none j low high = cond_both (j == i) m (w.nodes j) HasNoneDue (λ e. none) (λ e. all j low high)
 
       bounds : (i : ℕ) → is_node w i ≡ true → (1 ≤ i) × (i ≤ group.count)
@@ -217,44 +217,44 @@ module _ {O A : Type 0} (object : Sequential O) (back : ComesBack object A) (gro
           (leb-true 1 i b.0, omega (arith, inside, ap (λ (g : Group). g.count) known.here))
 
       frame-if : (b : Bool) (i : ℕ) (f : Transmission A) → is_node w i ≡ b → MayCome w i (CoreFrame f.frame) →
-          AllNone (stepped_if object b w i (NodeFrame f.frame))
+          AllNone (world_after_input_if_member object b w i (NodeFrame f.frame))
       frame-if false i f e comes = all
       frame-if true i f e comes =
           let b = bounds i e in
           put-none i (node_step object (w.nodes i) (NodeFrame f.frame)).node
           (step-none i b.0 b.1 (all i b.0 b.1) (CoreFrame f.frame) comes)
 
-      time-if : (b : Bool) (i : ℕ) (kind : Kind) → is_node w i ≡ b → AllNone (stepped_if object b w i (NodeTime kind))
+      time-if : (b : Bool) (i : ℕ) (kind : Kind) → is_node w i ≡ b → AllNone (world_after_input_if_member object b w i (NodeTime kind))
       time-if false i kind e = all
       time-if true i kind e =
           let b = bounds i e in
           put-none i (node_step object (w.nodes i) (NodeTime kind)).node
           (step-none i b.0 b.1 (all i b.0 b.1) (CoreTimeout kind) tt)
 
-      issued-none : (o : Option Fault) (i : ℕ) (c : Call A) → is_node w i ≡ true → AllNone (issued_or o w i c)
+      issued-none : (o : Option Fault) (i : ℕ) (c : Call A) → is_node w i ≡ true → AllNone (world_after_submit o w i c)
       issued-none (Some fault) i c e = all
       issued-none None i c e =
           let b = bounds i e in
-          put-none i (submitted (w.nodes i) c) (submit-none i b.0 b.1 (all i b.0 b.1) c)
+          put-none i (node_after_submit (w.nodes i) c) (submit-none i b.0 b.1 (all i b.0 b.1) c)
 
-      issue-if : (b : Bool) (i : ℕ) (c : Call A) → is_node w i ≡ b → AllNone (issued_if b w i c)
+      issue-if : (b : Bool) (i : ℕ) (c : Call A) → is_node w i ≡ b → AllNone (world_after_submit_if_member b w i c)
       issue-if false i c e = all
       issue-if true i c e = issued-none (submit_fault (w.nodes i)) i c e
 
-      stop-if : (b : Bool) (i : ℕ) → is_node w i ≡ b → AllNone (stopped_if b w i)
+      stop-if : (b : Bool) (i : ℕ) → is_node w i ≡ b → AllNone (world_after_stop_if_member b w i)
       stop-if false i e = all
       stop-if true i e = (let b = bounds i e in put-none i (node_stopped (w.nodes i)) (all i b.0 b.1))
 
       hand-if : (b : Bool) (i k : ℕ) (f : Transmission A) → frame_at w.frames k ≡ Some f → has f.to i ≡ b →
-          AllNone (handed_if object b w i f.frame)
+          AllNone (world_after_receipt_if_sent object b w i f.frame)
       hand-if false i k f there e = all
       hand-if true i k f there e = frame-if (is_node w i) i f refl (k, f, there, e, refl)
 
-      hand-none : (o : Option (Transmission A)) (i k : ℕ) → frame_at w.frames k ≡ o → AllNone (handed object w i o)
+      hand-none : (o : Option (Transmission A)) (i k : ℕ) → frame_at w.frames k ≡ o → AllNone (world_after_delivery object w i o)
       hand-none None i k e = all
       hand-none (Some f) i k e = hand-if (has f.to i) i k f e refl
 
-      event-none : (e : Event A) → AllNone (happens object w e)
+      event-none : (e : Event A) → AllNone (world_after_event object w e)
       event-none (Issue i c) = issue-if (is_node w i) i c refl
       event-none (Deliver i k) = hand-none (frame_at w.frames k) i k refl
       event-none (Noise i bytes) = all
@@ -266,11 +266,11 @@ module _ {O A : Type 0} (object : Sequential O) (back : ComesBack object A) (gro
   abbrev HaveNoneDue : World A → Type 0
   HaveNoneDue v = (i : ℕ) → 1 ≤ i → i ≤ group.count → HasNoneDue (v.nodes i)
 
-  run-none : (before later : List (Event A)) → Each EventKeeps before → Each EventKeeps later → HaveNoneDue (at before) →
+  run-none : (before later : List (Event A)) → Each IsEventCallWithinLimits before → Each IsEventCallWithinLimits later → HaveNoneDue (at before) →
       HaveNoneDue (run object (at before) later)
   run-none before [] limits more all = all
   run-none before (e ∷ later) limits more all =
-      let next = each-append EventKeeps before (e ∷ []) limits (more.0, tt) in
+      let next = each-append IsEventCallWithinLimits before (e ∷ []) limits (more.0, tt) in
       let same = run-more object (world_opening group) before e in
       subst (λ (x : World A). HaveNoneDue (run object x later)) same
       (run-none (before ++ e ∷ []) later next more.1
@@ -279,13 +279,13 @@ module _ {O A : Type 0} (object : Sequential O) (back : ComesBack object A) (gro
   opening-none : HaveNoneDue (world_opening group)
   opening-none i low high =
       drops-unripe object true (node_known_log ((world_opening {A = A} group).nodes i))
-      (ap (λ (k : KnownLog A). is_due_to_trim (retained_log k)) (epochs_opening-kept A group i))
+      (ap (λ (k : KnownLog A). is_due_to_trim (retained_log k)) (history_opening_of-kept A group i))
 
-  pub none-due : (events : List (Event A)) → Each EventKeeps events → HaveNoneDue (at events)
+  pub none-due : (events : List (Event A)) → Each IsEventCallWithinLimits events → HaveNoneDue (at events)
   none-due events limits = run-none [] events tt limits opening-none
 
   -- the test for an open exchange never decides
-  pub closed-idle : (events : List (Event A)) → Each EventKeeps events → (i : ℕ) → 1 ≤ i → i ≤ group.count → (input : Input A) →
+  pub closed-idle : (events : List (Event A)) → Each IsEventCallWithinLimits events → (i : ℕ) → 1 ≤ i → i ≤ group.count → (input : Input A) →
       MayCome (at events) i input →
       let epochs = (stepped_node ((at events).nodes i) input).epochs in
       drops object (is_closed group epochs) (known_log_of group epochs) ≡ drops object true (known_log_of group epochs)

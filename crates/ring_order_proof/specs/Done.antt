@@ -5,7 +5,7 @@ use Rattle.ring_object.specs.Operations.{Sequential}
 use Rattle.ring_payload.specs.declared.call.Call.{Call}
 use Rattle.ring_session.specs.Table.{Table, opening, table_next}
 use Rattle.ring_session.specs.Tickets.{TicketCall, answers_after}
-use Rattle.ring_session.specs.declared.answered.TicketAnswer.{TicketAnswer}
+use Rattle.ring_session.specs.declared.ticket_answer.TicketAnswer.{TicketAnswer}
 use Rattle.ring_node_spec.specs.Nodes.{Node, node_known_log}
 
 -- consecutive committed places: those that the node has from a restored snapshot, perhaps none, and those after them whose calls

@@ -5,7 +5,7 @@ pub mod SentPayloads
 pub mod SendOrder
 pub mod Texts
 pub mod RunFacts
-pub mod Between
+pub mod MidStep
 pub mod Linear
 pub mod WrongSnapshots
 pub mod Done

@@ -14,7 +14,7 @@ use Rattle.ring_wire.specs.declared.message.Message.{Message}
 use Rattle.ring_core_spec.specs.Tokens.{IsSafeIn}
 use Rattle.ring_core_spec.specs.Views.{front}
 use Rattle.ring_log.specs.Epochs.{Epoch}
-use Rattle.ring_log.specs.EpochHistories.{CompleteExchange, upto, complete_exchange, log_of, committed_of, base_of, ring_log, keeps_committed}
+use Rattle.ring_log.specs.EpochHistories.{CompleteExchange, messages_upto, complete_exchange, log_of, committed_of, base_of, ring_log, keeps_committed}
 use Rattle.ring_log.specs.KnownLog.{known_log_of, keeps_kept}
 use Rattle.ring_session.specs.Deduplicated.{deduplicated, deduplicated_after, operations}
 use Rattle.ring_session.specs.Snapshots.{KeepsLimits, table_snapshot}
@@ -26,17 +26,17 @@ use Rattle.ring_node_spec.specs.Histories.{IsIssuedAt}
 use Rattle.ring_node_spec.specs.Nodes.{Node, node_committed, node_trimmed, node_snapshot}
 use Rattle.ring_node_spec.specs.Worlds.{World}
 use Rattle.ring_log_proof.specs.RingFacts.{HasEpoch, IsReceivedByAll}
-use Rattle.ring_log_proof.specs.Time.{IsKnownCall}
+use Rattle.ring_log_proof.specs.EpochEvents.{IsKnownCall}
 use Rattle.ring_order_proof.specs.RunEpochs.{whole_epochs_in}
 
 -- an issued call is within the limits of a call, as each one from `Call::new` or decoding is; so a snapshot can encode
 -- it
-abbrev pub EventKeeps : {A : Type 0} → Event A → Type 0
-EventKeeps (Issue i c) = KeepsLimits c
-EventKeeps (Deliver i k) = Unit {0}
-EventKeeps (Noise i bytes) = Unit {0}
-EventKeeps (Timeout i kind) = Unit {0}
-EventKeeps (Stop i) = Unit {0}
+abbrev pub IsEventCallWithinLimits : {A : Type 0} → Event A → Type 0
+IsEventCallWithinLimits (Issue i c) = KeepsLimits c
+IsEventCallWithinLimits (Deliver i k) = Unit {0}
+IsEventCallWithinLimits (Noise i bytes) = Unit {0}
+IsEventCallWithinLimits (Timeout i kind) = Unit {0}
+IsEventCallWithinLimits (Stop i) = Unit {0}
 
 -- a primary ring's log, after a prefix of its text that holds its whole exchange and that all its members received, is a prefix
 -- of the base of every later primary ring that has one
@@ -51,7 +51,7 @@ abbrev pub ReachedLogPersists : {A : Type 0} → Group → World A → (RingId �
 ReachedLogPersists {A} group w members text =
     (earlier later : RingId) (n : ℕ) (heard : List (Message A)) (log : List (Call A)) (whole : CompleteExchange A) → IsBelow earlier later →
     IsSafeIn (members earlier) (λ q. front (w.nodes q).core earlier) n →
-    ring_log group (whole_epochs_in w) earlier (members earlier) (upto n (text earlier)) ≡ Some log → IsListPrefix heard (text later) →
+    ring_log group (whole_epochs_in w) earlier (members earlier) (messages_upto n (text earlier)) ≡ Some log → IsListPrefix heard (text later) →
     complete_exchange group (members later) heard ≡ Some whole → IsListPrefix log (base_of group (whole_epochs_in w) later whole.exchange)
 
 -- each base that a node adopted begins with the places that it had committed before
@@ -61,8 +61,8 @@ BasesKeepCommitted {A} group epochs =
     keeps_committed (log_of group older) s.front (committed_of group older) (complete_exchange group s.members s.heard) ≡ true
 
 -- the same by the node's known log, which it tests in each step
-abbrev pub KeepsOwn : {A : Type 0} → Group → List (Epoch A) → Type 0
-KeepsOwn {A} group epochs =
+abbrev pub KeepsCommittedPlaces : {A : Type 0} → Group → List (Epoch A) → Type 0
+KeepsCommittedPlaces {A} group epochs =
     (s : Epoch A) (older : List (Epoch A)) → HasEpoch epochs s older → keeps_kept (known_log_of group older) s.ring (complete_exchange group s.members s.heard) ≡ true
 
 -- the history has an issue of this call
@@ -70,7 +70,7 @@ abbrev pub IsIssued : {A : Type 0} → World A → Call A → Type 0
 IsIssued w c = (k : ℕ) × IsIssuedAt w.history c k
 
 -- each ticket's call was issued, and so was each call that a node handed over
-pub record OnlyIssued {A : Type 0} (w : World A) : Type 0 where
+pub record AreOnlyIssuedCalls {A : Type 0} (w : World A) : Type 0 where
   pub tickets : (i : ℕ) → Each (λ (t : TicketCall A). IsIssued w t.call) (w.nodes i).tickets
   pub handed : (i : ℕ) (s : Epoch A) (older : List (Epoch A)) → HasEpoch (w.nodes i).epochs s older → Each (IsKnownCall (IsIssued w)) s.sent
 

@@ -5,7 +5,7 @@ use Rattle.ring_base.specs.Group.{Group}
 use Rattle.ring_base.specs.declared.ring_id.RingId.{RingId}
 use Rattle.ring_payload.specs.declared.call.Call.{Call}
 use Rattle.ring_wire.specs.declared.message.Message.{Message}
-use Rattle.ring_core_spec.specs.Giving.{users}
+use Rattle.ring_core_spec.specs.Giving.{user_messages_between}
 use Rattle.ring_core_spec.specs.Views.{front, mark}
 use Rattle.ring_log.specs.Epochs.{Epoch}
 use Rattle.ring_log.specs.declared.wanted.Wanted.{Wanted}
@@ -18,7 +18,7 @@ use Rattle.ring_node_spec.specs.Worlds.{World}
 module _ {A : Type 0} (group : Group) (w : World A) (i : ℕ) where
   -- the text of a ring up to a number that the node's front there has reached: the user messages with numbers up to it
   abbrev pub text_upto : RingId → ℕ → List (Message A)
-  text_upto ring n = users (w.nodes i).core ring 0 n
+  text_upto ring n = user_messages_between (w.nodes i).core ring 0 n
 
   -- The node has installed the ring; after its text up to a number, the ring has this log: its base, and the calls after the
   -- exchange.

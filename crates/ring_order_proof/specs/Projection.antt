@@ -13,18 +13,18 @@ use Rattle.ring_core_spec.specs.declared.input.Input.TheVariants.{Frame as Frame
 use Rattle.ring_core_spec.specs.declared.out.Out.{Out}
 use Rattle.ring_core_spec.specs.State.{Transmission, StepResult, frame_at}
 use Rattle.ring_core_spec.specs.Stepping.{ring_step}
-use Rattle.ring_log.specs.Epochs.{Epoch, epochs_opening}
-use Rattle.ring_node_spec.specs.DueSends.{due_by}
+use Rattle.ring_log.specs.Epochs.{Epoch, history_opening_of}
+use Rattle.ring_node_spec.specs.DueSends.{due_of_outputs}
 use Rattle.ring_node_spec.specs.EpochHistories.{epochs_after}
 use Rattle.ring_node_spec.specs.Nodes.{Node, is_restored}
 use Rattle.ring_node_spec.specs.Stepping.{due_by_submit, submit_fault}
 use Rattle.ring_node_spec.specs.declared.event.Event.{Event}
 use Rattle.ring_node_spec.specs.declared.event.Event.TheVariants.{Issue, Deliver, Noise, Timeout, Stop}
-use Rattle.ring_node_spec.specs.Worlds.{World, world_opening, is_node, happens, run as node_run}
+use Rattle.ring_node_spec.specs.Worlds.{World, world_opening, is_node, world_after_event, run as node_run}
 use Rattle.ring_core_proof.specs.declared.event.RingEvent.{RingEvent}
 use Rattle.ring_core_proof.specs.declared.event.RingEvent.TheVariants.{Send, Deliver as RingDeliver, Timeout as RingTimeout, Stop as RingStop}
 use Rattle.ring_core_proof.specs.Worlds.{World as RingWorld, run, unformed}
-use Rattle.ring_core_proof.specs.EpochHistories.{outs_of}
+use Rattle.ring_core_proof.specs.Lives.{outs_of}
 use Rattle.ring_log.specs.KnownLog.{known_log_of, is_known_log_sound}
 
 -- the nodes' cores and the frames that these sent, with the cores' outputs
@@ -45,7 +45,7 @@ pub record IsRingRun {A : Type 0} (group : Group) (w : World A) : Type 0 where
   pub events : List (RingEvent A)
   pub outs : List (ℕ × Out A)
   pub part : run (unformed group.count) events ≡ ring_part w outs
-  pub node_epochs : (i : ℕ) → epochs_as_received (w.nodes i).epochs ≡ epochs_after (epochs_opening i) (outs_of (ring_part w outs) i)
+  pub node_epochs : (i : ℕ) → epochs_as_received (w.nodes i).epochs ≡ epochs_after (history_opening_of i) (outs_of (ring_part w outs) i)
 
 -- The events of cores in an event of nodes
 
@@ -76,7 +76,7 @@ module _ {O : Type 0} (object : Sequential O) where
   abbrev pub core_events_of_step : {A : Type 0} → Node A → ℕ → RingEvent A → StepResult A → CoreEvents A
   core_events_of_step n i event s =
       let k = known_log_of n.group (epochs_after n.epochs s.outs) in
-      core_events_if_sound (is_known_log_sound n.group (epochs_after n.epochs s.outs) && is_restored object k) i event (due_by object n s.core n.epochs s.outs) s.outs
+      core_events_if_sound (is_known_log_sound n.group (epochs_after n.epochs s.outs) && is_restored object k) i event (due_of_outputs object n s.core n.epochs s.outs) s.outs
 
   -- the events of a step of node i, if the node exists
   abbrev pub core_events_if : {A : Type 0} → Bool → World A → ℕ → RingEvent A → Input A → CoreEvents A
@@ -124,7 +124,7 @@ module _ {O : Type 0} (object : Sequential O) where
   -- the events of cores in a run of nodes
   abbrev pub core_events_of_run : {A : Type 0} → World A → List (Event A) → CoreEvents A
   core_events_of_run w [] = no_core_events
-  core_events_of_run w (e ∷ es) = core_events_joined (core_events w e) (core_events_of_run (happens object w e) es)
+  core_events_of_run w (e ∷ es) = core_events_joined (core_events w e) (core_events_of_run (world_after_event object w e) es)
 
 -- the ring part of the run consists of exactly these events and outputs
 pub record IsProjected {O A : Type 0} (object : Sequential O) (group : Group) (events : List (Event A)) : Type 0 where

@@ -5,7 +5,7 @@ use Rattle.ring_base.specs.declared.ring_id.RingId.{RingId}
 use Rattle.ring_wire.specs.declared.message.Message.{Message}
 use Rattle.ring_core_spec.specs.Tokens.{IsSafeIn}
 use Rattle.ring_core_spec.specs.Views.{front}
-use Rattle.ring_log.specs.EpochHistories.{upto}
+use Rattle.ring_log.specs.EpochHistories.{messages_upto}
 use Rattle.ring_node_spec.specs.Worlds.{World}
 use Rattle.ring_log_proof.specs.RingFacts.{payloads_from, IsReceivedByAll, RingFacts}
 use Rattle.ring_order_proof.specs.RunEpochs.{epochs_in, whole_epochs_in}
@@ -25,4 +25,4 @@ pub record HasFacts {A : Type 0} (w : World A) : Type 0 where
   pub speech : (p : ℕ) (ring : RingId) → payloads_from p (text ring) ≡ sent_payloads (w.nodes p).core ring
   -- each member received the text up to a number that every member's front has reached
   pub reached : (ring : RingId) (n : ℕ) → IsSafeIn (members ring) (λ q. front (w.nodes q).core ring) n →
-      (upto n (text ring) ≡ []) ⊎ IsReceivedByAll (whole_epochs_in w) ring (members ring) (upto n (text ring))
+      (messages_upto n (text ring) ≡ []) ⊎ IsReceivedByAll (whole_epochs_in w) ring (members ring) (messages_upto n (text ring))

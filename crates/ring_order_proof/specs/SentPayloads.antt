@@ -4,8 +4,8 @@ use Rattle.std.specs.Prelude.{List, [], ◌∷◌, ◌++◌, filter}
 use Rattle.std.specs.List.{flat_map}
 use Rattle.ring_base.specs.declared.ring_id.RingId.{RingId}
 use Rattle.ring_payload.specs.declared.content.Payload.{Payload}
-use Rattle.ring_payload.specs.Kinds.{is_user, unpacked_payloads}
-use Rattle.ring_core_spec.specs.Tokens.{TokenVisit, turns_of}
+use Rattle.ring_payload.specs.PayloadKinds.{is_user, unpacked_payloads}
+use Rattle.ring_core_spec.specs.Tokens.{TokenVisit, visits_in_ring}
 use Rattle.ring_core_spec.specs.State.{Core}
 
 -- the user payloads of a visit, the calls of a Pack one by one
@@ -19,4 +19,4 @@ payloads_of_visits (v ∷ older) = payloads_of_visits older ++ payloads_of_visit
 
 -- the user payloads that a core sent in one ring
 abbrev pub sent_payloads : {A : Type 0} → Core A → RingId → List (Payload A)
-sent_payloads c ring = payloads_of_visits (turns_of ring c.turns)
+sent_payloads c ring = payloads_of_visits (visits_in_ring ring c.turns)

@@ -5,12 +5,12 @@ use Rattle.std.specs.Prelude.{◌≡◌, ℕ, ◌<◌, true, List, [], ◌∷◌
 use Rattle.std.specs.List.{AllByRecursion as Each}
 use Rattle.ring_base.specs.Prefixes.{IsListPrefix}
 use Rattle.ring_base.specs.declared.ring_id.RingId.{RingId}
-use Rattle.ring_payload.specs.Kinds.{is_user}
+use Rattle.ring_payload.specs.PayloadKinds.{is_user}
 use Rattle.ring_wire.specs.declared.message.Message.{Message}
 use Rattle.ring_core_spec.specs.Tokens.{TokenVisit, numbered}
 use Rattle.ring_core_spec.specs.State.{Core}
 use Rattle.ring_core_spec.specs.Views.{front}
-use Rattle.ring_core_spec.specs.Giving.{users}
+use Rattle.ring_core_spec.specs.Giving.{user_messages_between}
 use Rattle.ring_core_proof.specs.FactWords.{IsIn}
 use Rattle.ring_core_proof.specs.Worlds.{World}
 use Rattle.ring_log_proof.specs.RingFacts.{payloads_from}
@@ -43,6 +43,6 @@ pub record HasTexts {A : Type 0} (w : World A) : Type 0 where
   pub is : (ring : RingId) → IsText w.cores ring (text ring)
   pub named : (ring : RingId) → Each (λ (x : Message A). x.ring ≡ ring) (text ring)
   -- the messages that a processor received as agreed there
-  pub heard : (q : ℕ) (ring : RingId) → IsListPrefix (users (w.cores q) ring 0 (front (w.cores q) ring)) (text ring)
+  pub heard : (q : ℕ) (ring : RingId) → IsListPrefix (user_messages_between (w.cores q) ring 0 (front (w.cores q) ring)) (text ring)
   -- the payloads that a processor sent in its own visits
   pub said : (q : ℕ) (ring : RingId) → payloads_from q (text ring) ≡ sent_payloads (w.cores q) ring

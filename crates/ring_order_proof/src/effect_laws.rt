@@ -10,8 +10,8 @@ ghost use Rattle.ring_session.specs.Deduplicated.{deduplicated};
 ghost use Rattle.ring_node_spec.specs.Nodes.{node_known_log, effects_at};
 ghost use Rattle.ring_node_spec.specs.declared.event.Event.{Event};
 ghost use Rattle.ring_node_spec.specs.Worlds.{world_opening, run, whole_epochs_in};
-ghost use Rattle.ring_order_proof.specs.Counts.{CountsPlaces};
-ghost use Rattle.ring_order_proof.specs.Linear.{EventKeeps};
+ghost use Rattle.ring_order_proof.specs.Counts.{CountsCommittedPlaces};
+ghost use Rattle.ring_order_proof.specs.Linear.{IsEventCallWithinLimits};
 
 use ring_object::Object;
 
@@ -23,11 +23,11 @@ use ring_object::Object;
 /// beginning, whatever snapshot it restored.
 ///
 /// Rules: The replicated log 1, 18 and 20; Sessions 6
-pub fn effects_law<O: Object>()
+pub fn committed_effects_law<O: Object>()
     ensures places { (group : Group) (events : List (Event O.Alloc)) (node : ℕ) → group.count ≤ 16 → 1 ≤ node → node ≤ group.count →
         let w = run O.sequential (world_opening group) events in
-        CountsPlaces (w.nodes node) }
-    ensures effects { (group : Group) (events : List (Event O.Alloc)) (node : ℕ) → group.count ≤ 16 → AllByRecursion EventKeeps events →
+        CountsCommittedPlaces (w.nodes node) }
+    ensures effects { (group : Group) (events : List (Event O.Alloc)) (node : ℕ) → group.count ≤ 16 → AllByRecursion IsEventCallWithinLimits events →
         1 ≤ node → node ≤ group.count →
         let w = run O.sequential (world_opening group) events in
         effects_at O.sequential (node_known_log (w.nodes node)) (node_known_log (w.nodes node)).committed

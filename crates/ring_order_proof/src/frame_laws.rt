@@ -23,9 +23,9 @@ ghost use Rattle.ring_node_spec.specs.Nodes.{Node, node_known_log, node_pending}
 ghost use Rattle.ring_node_spec.specs.Stepping.{node_step, send_of};
 ghost use Rattle.ring_node_spec.specs.declared.event.Event.{Event};
 ghost use Rattle.ring_node_spec.specs.WorldLimits.{EventFits};
-ghost use Rattle.ring_node_spec.specs.Worlds.{world_opening, happens, run, whole_epochs_in};
+ghost use Rattle.ring_node_spec.specs.Worlds.{world_opening, world_after_event, run, whole_epochs_in};
 ghost use Rattle.ring_order_proof.specs.Done.{HasDone};
-ghost use Rattle.ring_order_proof.specs.Linear.{EventKeeps};
+ghost use Rattle.ring_order_proof.specs.Linear.{IsEventCallWithinLimits};
 
 use ring_object::Object;
 
@@ -44,7 +44,7 @@ pub fn step_counts_law<O: Object>()
 /// States that a node of a run has at most 64 unanswered tickets, so that no step gives more than 64 answers.
 ///
 /// Rules: The replicated log 13 and 14
-pub fn pending_law<O: Object>()
+pub fn pending_tickets_law<O: Object>()
     ensures pending { (group : Group) (events : List (Event O.Alloc)) (node : ℕ) →
         let w = run O.sequential (world_opening group) events in
         length (node_pending (w.nodes node)) ≤ 64 }
@@ -60,8 +60,8 @@ pub fn pending_law<O: Object>()
 /// limits of a call.
 ///
 /// Rules: The replicated log 14; Sessions 8
-pub fn done_law<O: Object>()
-    ensures { (group : Group) (events : List (Event O.Alloc)) (node : ℕ) → group.count ≤ 16 → AllByRecursion EventKeeps events → 1 ≤ node →
+pub fn done_calls_law<O: Object>()
+    ensures { (group : Group) (events : List (Event O.Alloc)) (node : ℕ) → group.count ≤ 16 → AllByRecursion IsEventCallWithinLimits events → 1 ≤ node →
         node ≤ group.count →
         let w = run O.sequential (world_opening group) events in
         HasDone O.sequential (w.nodes node) (committed_of group (whole_epochs_in w node)) }
@@ -76,7 +76,7 @@ pub fn done_law<O: Object>()
 /// - each call of its known log.
 ///
 /// Rules: Limits 1
-pub fn frames_law<O: Object>()
+pub fn sent_frames_fit_law<O: Object>()
     ensures frames { (group : Group) (events : List (Event O.Alloc)) → group.count ≤ 16 → AllByRecursion EventFits events →
         let w = run O.sequential (world_opening group) events in
         AllByRecursion (λ (f : Transmission O.Alloc). FrameFits f.frame) w.frames }
@@ -111,16 +111,16 @@ pub fn frames_law<O: Object>()
 /// This holds for every run of at most 16 nodes whose issued calls are within the limits of a call.
 ///
 /// Rules: Limits 1; The replicated log 13 and 14
-pub fn growth_law<O: Object>()
+pub fn event_growth_law<O: Object>()
     ensures frames { (group : Group) (events : List (Event O.Alloc)) (e : Event O.Alloc) → group.count ≤ 16 → AllByRecursion EventFits events →
         let w = run O.sequential (world_opening group) events in
-        length (happens O.sequential w e).frames ≤ length w.frames + 64 }
+        length (world_after_event O.sequential w e).frames ≤ length w.frames + 64 }
     ensures history { (group : Group) (events : List (Event O.Alloc)) (e : Event O.Alloc) → group.count ≤ 16 → AllByRecursion EventFits events →
         let w = run O.sequential (world_opening group) events in
-        length (happens O.sequential w e).history ≤ length w.history + 64 }
+        length (world_after_event O.sequential w e).history ≤ length w.history + 64 }
     ensures told { (group : Group) (events : List (Event O.Alloc)) (e : Event O.Alloc) → group.count ≤ 16 → AllByRecursion EventFits events →
         let w = run O.sequential (world_opening group) events in
-        length (happens O.sequential w e).told ≤ length w.told + 64 }
+        length (world_after_event O.sequential w e).told ≤ length w.told + 64 }
 {}
 
 /// States that the encoding of a frame that is within its limits has at most 7,321 bytes.

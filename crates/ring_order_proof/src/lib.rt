@@ -7,14 +7,14 @@
 //! Rules: Sessions 10 and 11; The replicated log 8, 16 and 17
 #![tactic(auto)]
 
-pub mod discipline_laws;
 pub mod effect_laws;
-pub mod examples;
-pub mod fact_laws;
-pub mod fit_laws;
 pub mod frame_laws;
-pub mod laws;
+pub mod hand_over_laws;
+pub mod limit_laws;
+pub mod linear_laws;
 pub mod log_text_laws;
 pub mod longest_laws;
+pub mod order_premise_laws;
 pub mod projection_laws;
-pub mod text_laws;
+pub mod ring_text_laws;
+pub mod wrong_snapshot_example;

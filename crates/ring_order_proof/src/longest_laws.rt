@@ -20,7 +20,7 @@ use ring_object::Object;
 /// effect are the order.
 ///
 /// Rules: Sessions 10 and 11; The replicated log 12
-pub fn longest_law<O: Object>()
+pub fn longest_committed_log_law<O: Object>()
     ensures takes { (group : Group) (events : List (Event O.Alloc)) (node : ℕ) → group.count ≤ 16 → 1 ≤ node → node ≤ group.count →
         let w = run O.sequential (world_opening group) events in
         committed_of group (whole_epochs_in w node) ≡ take (node_known_log (w.nodes node)).committed w.longest }

@@ -11,8 +11,8 @@ use Rattle.ring_payload.specs.Limits.{max_pack_calls, max_pack_bytes}
 use Rattle.ring_payload.specs.Calls.{call_bytes, CallFits}
 use Rattle.ring_payload.specs.Packs.{calls_bytes, pack_bytes}
 use Rattle.ring_payload.specs.Payloads.{PayloadFits}
-use Rattle.ring_payload.specs.Kinds.{is_user, unpacked_payloads}
-use Rattle.ring_payload.specs.Packing.{is_queued, AreQueued, IsLongestRun, run_within, first_run, first_packed_payload, behind, packed_payloads, unpacked_rest}
+use Rattle.ring_payload.specs.PayloadKinds.{is_user, unpacked_payloads}
+use Rattle.ring_payload.specs.Packing.{is_queued, AreQueued, IsLongestRun, run_within, longest_call_run, first_packed_payload, behind, packed_payloads, unpacked_rest}
 
 -- as many as fit
 pub length-packed_payloads : {A : Type 0} → (count : ℕ) (queue : List (Payload A)) → length (packed_payloads count queue) ≤ count
@@ -95,13 +95,13 @@ run-longest (suc more) bytes (Pack pack ∷ queue) (x ∷ other) rest e l b = ab
 run-longest (suc more) bytes (Snap snap ∷ queue) (x ∷ other) rest e l b = absurd cc
 
 -- the run of a queue's first message is the longest that fits one Pack
-pub first_run-longest : {A : Type 0} → (queue : List (Payload A)) → IsLongestRun queue (first_run queue)
-first_run-longest queue =
+pub longest_call_run-longest : {A : Type 0} → (queue : List (Payload A)) → IsLongestRun queue (longest_call_run queue)
+longest_call_run-longest queue =
     let bytes = max_pack_bytes - 2 in
-    let short : calls_bytes (first_run queue) ≤ bytes = run-short max_pack_calls bytes queue in
+    let short : calls_bytes (longest_call_run queue) ≤ bytes = run-short max_pack_calls bytes queue in
     record {
       fits = record {
-        begins = (drop (length (first_run queue)) queue, run-front max_pack_calls bytes queue);
+        begins = (drop (length (longest_call_run queue)) queue, run-front max_pack_calls bytes queue);
         few = run-few max_pack_calls bytes queue;
         short = omega arith;
       };
@@ -131,8 +131,8 @@ unpacked_payloads-made first queue (c ∷ d ∷ run) h e =
     subst (λ n. unpacked_payloads (first_packed_payload first (c ∷ d ∷ run)) ++ drop n (first ∷ queue) ≡ first ∷ queue) n e
 
 unpacked_payloads-first : {A : Type 0} → (first : Payload A) (queue : List (Payload A)) → is_queued first ≡ true →
-    unpacked_payloads (first_packed_payload first (first_run (first ∷ queue))) ++ behind (first ∷ queue) ≡ first ∷ queue
-unpacked_payloads-first first queue h = unpacked_payloads-made first queue (first_run (first ∷ queue)) h (run-front max_pack_calls (max_pack_bytes - 2) (first ∷ queue))
+    unpacked_payloads (first_packed_payload first (longest_call_run (first ∷ queue))) ++ behind (first ∷ queue) ≡ first ∷ queue
+unpacked_payloads-first first queue h = unpacked_payloads-made first queue (longest_call_run (first ∷ queue)) h (run-front max_pack_calls (max_pack_bytes - 2) (first ∷ queue))
 
 -- dropping elements of a list keeps a fact about each
 each-drop : {X : Type 0} → (P : X → Type 0) (n : ℕ) (xs : List X) → AllByRecursion P xs → AllByRecursion P (drop n xs)
@@ -144,7 +144,7 @@ each-drop P (suc n) (x ∷ xs) h = each-drop P n xs h.1
 pub unpacked_rest-each : {A : Type 0} → (P : Payload A → Type 0) (count : ℕ) (queue : List (Payload A)) → AllByRecursion P queue →
     AllByRecursion P (unpacked_rest count queue)
 unpacked_rest-each P zero queue h = h
-unpacked_rest-each P (suc more) queue h = unpacked_rest-each P more (behind queue) (each-drop P (max 1 (length (first_run queue))) queue h)
+unpacked_rest-each P (suc more) queue h = unpacked_rest-each P more (behind queue) (each-drop P (max 1 (length (longest_call_run queue))) queue h)
 
 behind-nil : {A : Type 0} → (count : ℕ) → unpacked_rest {A = A} count [] ≡ []
 behind-nil zero = refl
@@ -157,8 +157,8 @@ unpacked_payloads-packed_payloads zero queue h = refl
 unpacked_payloads-packed_payloads (suc more) [] h = behind-nil more
 unpacked_payloads-packed_payloads {A} (suc more) (first ∷ queue) h =
     let rest = behind (first ∷ queue) in
-    let made = unpacked_payloads (first_packed_payload first (first_run (first ∷ queue))) in
-    let e = unpacked_payloads-packed_payloads more rest (each-drop (λ (p : Payload A). is_queued p ≡ true) (max 1 (length (first_run (first ∷ queue)))) (first ∷ queue) h) in
+    let made = unpacked_payloads (first_packed_payload first (longest_call_run (first ∷ queue))) in
+    let e = unpacked_payloads-packed_payloads more rest (each-drop (λ (p : Payload A). is_queued p ≡ true) (max 1 (length (longest_call_run (first ∷ queue)))) (first ∷ queue) h) in
     append_assoc made (flat_map unpacked_payloads (packed_payloads more rest)) (unpacked_rest more rest) ∙ (ap (λ q. made ++ q) e ∙ unpacked_payloads-first first queue h.0)
 
 -- Limits
@@ -187,8 +187,8 @@ pub packed_payloads-fits : {A : Type 0} → (count : ℕ) (queue : List (Payload
 packed_payloads-fits zero queue h = tt
 packed_payloads-fits (suc more) [] h = tt
 packed_payloads-fits (suc more) (first ∷ queue) h =
-    let run = first_run (first ∷ queue) in
-    let is = (first_run-longest (first ∷ queue)).fits in
+    let run = longest_call_run (first ∷ queue) in
+    let is = (longest_call_run-longest (first ∷ queue)).fits in
     let each = run-fits max_pack_calls (max_pack_bytes - 2) (first ∷ queue) h in
     let rest = each-drop PayloadFits (max 1 (length run)) (first ∷ queue) h in
     (made-fits first run h.0 each is.few is.short, packed_payloads-fits more (behind (first ∷ queue)) rest)
@@ -206,7 +206,7 @@ pub packed_payloads-users : {A : Type 0} → (count : ℕ) (queue : List (Payloa
 packed_payloads-users zero queue h = tt
 packed_payloads-users (suc more) [] h = tt
 packed_payloads-users {A} (suc more) (first ∷ queue) h =
-    let run = first_run (first ∷ queue) in
+    let run = longest_call_run (first ∷ queue) in
     let rest = each-drop (λ (p : Payload A). is_user p ≡ true) (max 1 (length run)) (first ∷ queue) h in
     (user-made first run h.0, packed_payloads-users more (behind (first ∷ queue)) rest)
 

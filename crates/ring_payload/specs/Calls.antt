@@ -5,10 +5,10 @@ use Rattle.std.proofs.Common.{◌≡◌, ℕ, ◌+◌, ◌^◌, ◌<◌, ◌≤�
 use Rattle.std.specs.Prelude.{nat_le}
 use Rattle.std.proofs.lemmas.Bool.{leb-true, le-leb}
 use Rattle.byteorder.specs.Endian.{big_bytes}
-use Rattle.ring_codec.specs.Base.{Fault}
-use Rattle.ring_codec.specs.Faults.{Memory, OpTooLong, NumberGap}
-use Rattle.ring_codec.specs.Reading.{IsFormat, made_at, ◌⊕◌}
-use Rattle.ring_codec.specs.Formats.{Format, u32_field, u64_field, ◌&◌, such, fields_format}
+use Rattle.ring_codec.specs.BaseReexports.{Fault}
+use Rattle.ring_codec.specs.FaultReexports.{Memory, OpTooLong, NumberGap}
+use Rattle.ring_codec.specs.Reading.{IsFormat, mapped_at, ◌⊕◌}
+use Rattle.ring_codec.specs.Formats.{Format, u32_field, u64_field, ◌&◌, tested_format, fields_format}
 use Rattle.ring_payload.specs.declared.call.Call.{Call}
 use Rattle.ring_payload.specs.Limits.{max_operation}
 use Rattle.ring_payload.specs.Operations.{op, op_encoding, OpFits}
@@ -42,7 +42,7 @@ pub record CallFits {A : Type 0} (c : Call A) : Type 0 where
 
 -- the fields of a call, in order
 abbrev call_fields : Format (ℕ × (ℕ × List ℕ))
-call_fields = u32_field & such (λ n. nat_le 1 n) u64_field & op
+call_fields = u32_field & tested_format (λ n. nat_le 1 n) u64_field & op
 
 -- the call with these fields
 abbrev from_fields : {A : Type 0} → ℕ × (ℕ × List ℕ) → Call A
@@ -50,7 +50,7 @@ from_fields p = call_of p.0 p.1.0 p.1.1
 
 -- reads a call from the front
 unfoldable pub call_at : {A : Type 0} → List ℕ → Option (Call A × List ℕ)
-call_at bytes = made_at from_fields call_fields.at bytes
+call_at bytes = mapped_at from_fields call_fields.at bytes
 
 -- a call is read exactly
 pub call_format : {A : Type 0} → IsFormat {A = Call A} call_encoding CallFits call_at

@@ -1,2 +1,2 @@
 -- Refusals, re-exported for frames.
-pub use Rattle.ring_codec.specs.Faults.{BadFrame, Memory}
+pub use Rattle.ring_codec.specs.FaultReexports.{BadFrame, Memory}

@@ -5,10 +5,10 @@ use Rattle.std.proofs.Common.{◌≡◌, ℕ, ◌≤◌, Bool, true, false, List
 use Rattle.std.specs.Prelude.{nat_le, ◌&&◌, ◌||◌, ◌==◌, is_some, if◌then◌else◌}
 use Rattle.std.proofs.lemmas.Bool.{leb-true, le-leb, eqb-true, eqb-false, and_parts, cases_Bool}
 use Rattle.byteorder.specs.Endian.{big_bytes}
-use Rattle.ring_codec.specs.Base.{max_number, RingId}
-use Rattle.ring_codec.specs.Reading.{IsFormat, such_at, made_at, ◌⊕◌}
-use Rattle.ring_codec.specs.Formats.{Format, u64_field, ◌&◌, such, tested_fields_format}
-use Rattle.ring_codec.specs.Cases.{Case, case, tagged_cases_at, IsMade, cases_format}
+use Rattle.ring_codec.specs.BaseReexports.{max_number, RingId}
+use Rattle.ring_codec.specs.Reading.{IsFormat, tested_at, mapped_at, ◌⊕◌}
+use Rattle.ring_codec.specs.Formats.{Format, u64_field, ◌&◌, tested_format, tested_fields_format}
+use Rattle.ring_codec.specs.TaggedCases.{Case, tagged_case, tagged_cases_at, IsMade, cases_format}
 use Rattle.ring_codec.specs.Rings.{some_ring, some_ring_encoding, SomeRingFits}
 use Rattle.ring_payload.specs.declared.head.Head.{Head}
 use Rattle.ring_payload.specs.Limits.{head_tag, trimmed_tag}
@@ -79,7 +79,7 @@ WholeFits h = HeadFits h × (h.trimmed ≡ 0)
 
 -- reads the body of the head of a whole log from the front
 unfoldable pub whole_at : List ℕ → Option (Head × List ℕ)
-whole_at bytes = such_at head_test (made_at whole whole_fields.at) bytes
+whole_at bytes = tested_at head_test (mapped_at whole whole_fields.at) bytes
 
 -- the body of the head of a whole log is read exactly
 pub whole_format : IsFormat whole_head_encoding WholeFits whole_at
@@ -119,7 +119,7 @@ trimmed_test h = nat_le 1 h.trimmed && head_test h
 
 -- reads the body of the head of a trimmed log from the front
 unfoldable pub trimmed_at : List ℕ → Option (Head × List ℕ)
-trimmed_at bytes = such_at trimmed_test (made_at from_fields trimmed_fields.at) bytes
+trimmed_at bytes = tested_at trimmed_test (mapped_at from_fields trimmed_fields.at) bytes
 
 -- the body of the head of a trimmed log is read exactly
 pub trimmed_format : IsFormat trimmed_head_encoding TrimmedFits trimmed_at
@@ -142,22 +142,22 @@ trimmed_head = record { encoding = trimmed_head_encoding; Fits = TrimmedFits; at
 -- ---- a head of either sort, by its tag
 
 -- if nothing is trimmed, a head is encoded under the tag of whole logs, without a trimmed length
-pub is_whole : (h : Head) → h.trimmed ≡ 0 → (tag_of_head h ≡ head_tag) × (head_body h ≡ whole_head_encoding h)
-is_whole h e = rw e (refl, refl)
+pub untrimmed_head-encoding : (h : Head) → h.trimmed ≡ 0 → (tag_of_head h ≡ head_tag) × (head_body h ≡ whole_head_encoding h)
+untrimmed_head-encoding h e = rw e (refl, refl)
 
 -- a number that isn't 0 is at least 1
-pub positive : (n : ℕ) → (n == 0) ≡ false → 1 ≤ n
-positive n e = let not_none = eqb-false n 0 e in omega (arith, not_none)
+pub not_zero_positive : (n : ℕ) → (n == 0) ≡ false → 1 ≤ n
+not_zero_positive n e = let not_none = eqb-false n 0 e in omega (arith, not_none)
 
 -- if something is trimmed, a head is encoded under the tag of trimmed logs, with the trimmed length last
-pub is_trimmed : (h : Head) → 1 ≤ h.trimmed → (tag_of_head h ≡ trimmed_tag) × (head_body h ≡ trimmed_head_encoding h)
-is_trimmed h some =
+pub trimmed_head-encoding : (h : Head) → 1 ≤ h.trimmed → (tag_of_head h ≡ trimmed_tag) × (head_body h ≡ trimmed_head_encoding h)
+trimmed_head-encoding h some =
     let e : (h.trimmed == 0) ≡ false = elim (cases_Bool (h.trimmed == 0)) [ inl e ↦ absurd (omega (arith, eqb-true _ _ e, some)) | inr e ↦ e ] in
     rw e (refl, refl)
 
 -- the two cases of heads, by their tags
 abbrev head_cases : List (Case Head)
-head_cases = case head_tag whole_head (λ h. h) ∷ case trimmed_tag trimmed_head (λ h. h) ∷ []
+head_cases = tagged_case head_tag whole_head (λ h. h) ∷ tagged_case trimmed_tag trimmed_head (λ h. h) ∷ []
 
 -- reads a head from the front
 unfoldable pub head_at : List ℕ → Option (Head × List ℕ)
@@ -166,13 +166,13 @@ head_at bytes = tagged_cases_at head_cases bytes
 head_made : (h : Head) → HeadFits h → IsMade head_cases (tag_of_head h) h
 head_made h f = elim (cases_Bool (h.trimmed == 0)) [
   | inl e ↦ let none = eqb-true _ _ e in rw e (h, (f, none), refl)
-  | inr e ↦ rw e (h, (f, positive h.trimmed e), refl)
+  | inr e ↦ rw e (h, (f, not_zero_positive h.trimmed e), refl)
 ]
 
 -- a head is read exactly
 pub head_format : IsFormat head_encoding HeadFits head_at
 unfolding head_at
 head_format = cases_format head_cases tag_of_head head_body HeadFits (record {
-  each = (λ h f. let t = is_whole h f.1 in (t.0, (t.1, f.0)), (λ h f. let t = is_trimmed h f.1 in (t.0, (t.1, f.0)), tt));
+  each = (λ h f. let t = untrimmed_head-encoding h f.1 in (t.0, (t.1, f.0)), (λ h f. let t = trimmed_head-encoding h f.1 in (t.0, (t.1, f.0)), tt));
   made = head_made;
 })

@@ -1,7 +1,7 @@
 pub mod Calls
 pub mod Contents
 pub mod Heads
-pub mod Kinds
+pub mod PayloadKinds
 pub mod Limits
 pub mod Operations
 pub mod Packs

@@ -4,8 +4,8 @@ use Rattle.std.proofs.Common.{ℕ, ◌≤◌, List, length, Option, refl, arith}
 use Rattle.std.specs.Prelude.{nat_le}
 use Rattle.std.proofs.lemmas.Bool.{leb-true, le-leb}
 use Rattle.byteorder.specs.Endian.{big_bytes}
-use Rattle.ring_codec.specs.Reading.{IsFormat, made_at, ◌⊕◌}
-use Rattle.ring_codec.specs.Formats.{Format, u16_field, text, followed, such, fields_format}
+use Rattle.ring_codec.specs.Reading.{IsFormat, mapped_at, ◌⊕◌}
+use Rattle.ring_codec.specs.Formats.{Format, u16_field, text, dependent_pair_format, tested_format, fields_format}
 use Rattle.ring_payload.specs.Limits.{max_operation}
 
 -- the encoding of an operation: its length in 2 bytes, then its bytes
@@ -18,11 +18,11 @@ OpFits o = length o ≤ max_operation
 
 -- the length and the bytes
 abbrev op_fields : Format (ℕ × List ℕ)
-op_fields = followed (such (λ n. nat_le n max_operation) u16_field) text
+op_fields = dependent_pair_format (tested_format (λ n. nat_le n max_operation) u16_field) text
 
 -- reads an operation from the front
 unfoldable pub op_at : List ℕ → Option (List ℕ × List ℕ)
-op_at bytes = made_at (λ p. p.1) op_fields.at bytes
+op_at bytes = mapped_at (λ p. p.1) op_fields.at bytes
 
 -- an operation is read exactly
 pub op_format : IsFormat op_encoding OpFits op_at

@@ -7,8 +7,8 @@ use Rattle.std.proofs.lemmas.Bool.{leb-true, le-leb}
 use Rattle.std.proofs.lemmas.Bool.Decides.{nat_tests}
 use Rattle.std.proofs.lemmas.List.{length-append}
 use Rattle.std.proofs.lemmas.List.Concat.{flat_map-cons}
-use Rattle.ring_codec.specs.Reading.{IsFormat, made_at}
-use Rattle.ring_codec.specs.Formats.{Format, byte, followed, times, such, fields_format}
+use Rattle.ring_codec.specs.Reading.{IsFormat, mapped_at}
+use Rattle.ring_codec.specs.Formats.{Format, byte_field, dependent_pair_format, repeated_format, tested_format, fields_format}
 use Rattle.ring_payload.specs.declared.call.Call.{Call}
 use Rattle.ring_payload.specs.declared.calls.Pack.{Pack}
 use Rattle.ring_payload.specs.Calls.{call, call_bytes, call_encoding, CallFits}
@@ -43,30 +43,30 @@ length-calls (c ∷ cs) =
     omega (arith, e, l, length-calls cs)
 
 -- whether a pack may have this number of calls, as a test
-abbrev is_count : ℕ → Bool
-is_count n = nat_le min_pack_calls n && nat_le n max_pack_calls
+abbrev is_pack_count : ℕ → Bool
+is_pack_count n = nat_le min_pack_calls n && nat_le n max_pack_calls
 
 -- a pack may have this number of calls: 2 to 16
-abbrev IsCount : ℕ → Type 0
-IsCount n = (min_pack_calls ≤ n) × (n ≤ max_pack_calls)
+abbrev IsPackCount : ℕ → Type 0
+IsPackCount n = (min_pack_calls ≤ n) × (n ≤ max_pack_calls)
 
-is_count-true : (n : ℕ) → is_count n ≡ true → IsCount n
-is_count-true n h = grind (arith, nat_tests)
+is_pack_count-true : (n : ℕ) → is_pack_count n ≡ true → IsPackCount n
+is_pack_count-true n h = grind (arith, nat_tests)
 
-true-is_count : (n : ℕ) → IsCount n → is_count n ≡ true
-true-is_count n h = grind (arith, nat_tests)
+true-is_pack_count : (n : ℕ) → IsPackCount n → is_pack_count n ≡ true
+true-is_pack_count n h = grind (arith, nat_tests)
 
 -- whether a pack of these calls is within the limit of bytes, as a test
-abbrev pub fits_pack_limit : {A : Type 0} → List (Call A) → Bool
-fits_pack_limit cs = nat_le (pack_bytes cs) max_pack_bytes
+abbrev pub is_within_pack_bytes : {A : Type 0} → List (Call A) → Bool
+is_within_pack_bytes cs = nat_le (pack_bytes cs) max_pack_bytes
 
 -- the format of a count and that many calls
 abbrev calls : {A : Type 0} → Format (ℕ × List (Call A))
-calls = followed (such is_count byte) (λ n. times n call)
+calls = dependent_pair_format (tested_format is_pack_count byte_field) (λ n. repeated_format n call)
 
 -- the fields of a pack: its count and its calls, within the limit of bytes
 abbrev pack_fields : {A : Type 0} → Format (ℕ × List (Call A))
-pack_fields = such (λ p. fits_pack_limit p.1) calls
+pack_fields = tested_format (λ p. is_within_pack_bytes p.1) calls
 
 -- the pack with these fields
 abbrev from_fields : {A : Type 0} → ℕ × List (Call A) → Pack A
@@ -74,7 +74,7 @@ from_fields p = record { calls = p.1 }
 
 -- reads a pack from the front
 unfoldable pub pack_at : {A : Type 0} → List ℕ → Option (Pack A × List ℕ)
-pack_at {A} bytes = made_at from_fields (pack_fields {A = A}).at bytes
+pack_at {A} bytes = mapped_at from_fields (pack_fields {A = A}).at bytes
 
 -- a pack is read exactly
 pub pack_format : {A : Type 0} → IsFormat {A = Pack A} pack_encoding PackFits pack_at
@@ -82,11 +82,11 @@ unfolding pack_at
 pack_format {A} = fields_format (pack_fields {A = A}) from_fields pack_encoding PackFits (record {
   encoded = λ p f. rw f.0.1.0 refl;
   fits = λ p f.
-      let count = is_count-true p.0 f.0.0.1 in
+      let count = is_pack_count-true p.0 f.0.0.1 in
       record { some = omega (arith, count, f.0.1.0); few = omega (arith, count, f.0.1.0); each = f.0.1.1; short = leb-true _ _ f.1 };
   back = λ p f. (
     (length p.calls, p.calls),
-    (((omega (arith, f.few), true-is_count (length p.calls) (f.some, f.few)), (refl, f.each)), le-leb _ _ f.short),
+    (((omega (arith, f.few), true-is_pack_count (length p.calls) (f.some, f.few)), (refl, f.each)), le-leb _ _ f.short),
     refl,
   );
 })

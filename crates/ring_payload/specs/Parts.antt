@@ -8,9 +8,9 @@ use Rattle.std.proofs.lemmas.Bool.Decides.{nat_tests}
 use Rattle.std.proofs.lemmas.List.{length-append}
 use Rattle.std.proofs.lemmas.List.Concat.{flat_map-cons}
 use Rattle.byteorder.specs.Endian.{big_bytes}
-use Rattle.ring_codec.specs.Base.{max_number}
-use Rattle.ring_codec.specs.Reading.{IsFormat, made_at, ◌⊕◌}
-use Rattle.ring_codec.specs.Formats.{Format, byte, followed, times, such, fields_format, ◌&◌}
+use Rattle.ring_codec.specs.BaseReexports.{max_number}
+use Rattle.ring_codec.specs.Reading.{IsFormat, mapped_at, ◌⊕◌}
+use Rattle.ring_codec.specs.Formats.{Format, byte_field, dependent_pair_format, repeated_format, tested_format, fields_format, ◌&◌}
 use Rattle.ring_codec.specs.Rings.{number}
 use Rattle.ring_payload.specs.declared.call.Call.{Call}
 use Rattle.ring_payload.specs.declared.calls.Part.{Part}
@@ -29,22 +29,22 @@ pub record PartFits {A : Type 0} (p : Part A) : Type 0 where
   pub each : AllByRecursion CallFits p.calls
 
 -- whether a part may have this number of calls, as a test
-abbrev is_count : ℕ → Bool
-is_count n = nat_le 1 n && nat_le n max_part_calls
+abbrev is_part_count : ℕ → Bool
+is_part_count n = nat_le 1 n && nat_le n max_part_calls
 
 -- a part may have this number of calls: 1 to 7
-abbrev IsCount : ℕ → Type 0
-IsCount n = (1 ≤ n) × (n ≤ max_part_calls)
+abbrev IsPartCount : ℕ → Type 0
+IsPartCount n = (1 ≤ n) × (n ≤ max_part_calls)
 
-is_count-true : (n : ℕ) → is_count n ≡ true → IsCount n
-is_count-true n h = grind (arith, nat_tests)
+is_part_count-true : (n : ℕ) → is_part_count n ≡ true → IsPartCount n
+is_part_count-true n h = grind (arith, nat_tests)
 
-true-is_count : (n : ℕ) → IsCount n → is_count n ≡ true
-true-is_count n h = grind (arith, nat_tests)
+true-is_part_count : (n : ℕ) → IsPartCount n → is_part_count n ≡ true
+true-is_part_count n h = grind (arith, nat_tests)
 
 -- the format of a count and that many calls
 abbrev calls : {A : Type 0} → Format (ℕ × List (Call A))
-calls = followed (such is_count byte) (λ n. times n call)
+calls = dependent_pair_format (tested_format is_part_count byte_field) (λ n. repeated_format n call)
 
 -- the fields of a part: its first place, its count and its calls
 abbrev part_fields : {A : Type 0} → Format (ℕ × (ℕ × List (Call A)))
@@ -56,7 +56,7 @@ from_fields p = record { first = p.0; calls = p.1.1 }
 
 -- reads a part from the front
 unfoldable pub part_at : {A : Type 0} → List ℕ → Option (Part A × List ℕ)
-part_at {A} bytes = made_at from_fields (part_fields {A = A}).at bytes
+part_at {A} bytes = mapped_at from_fields (part_fields {A = A}).at bytes
 
 -- a part is read exactly
 pub part_format : {A : Type 0} → IsFormat {A = Part A} part_encoding PartFits part_at
@@ -64,13 +64,13 @@ unfolding part_at
 part_format {A} = fields_format (part_fields {A = A}) from_fields part_encoding PartFits (record {
   encoded = λ p f. rw f.1.1.0 refl;
   fits = λ p f.
-      let count = is_count-true p.1.0 f.1.0.1 in
+      let count = is_part_count-true p.1.0 f.1.0.1 in
       record { first = leb-true _ _ f.0.1; some = omega (arith, count, f.1.1.0); few = omega (arith, count, f.1.1.0); each = f.1.1.1 };
   back = λ p f. (
     (p.first, (length p.calls, p.calls)),
     (
       (omega (arith, f.first), le-leb _ _ f.first),
-      ((omega (arith, f.few), true-is_count (length p.calls) (f.some, f.few)), (refl, f.each)),
+      ((omega (arith, f.few), true-is_part_count (length p.calls) (f.some, f.few)), (refl, f.each)),
     ),
     refl,
   );

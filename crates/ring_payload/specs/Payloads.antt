@@ -4,13 +4,13 @@ use Rattle.std.proofs.Common.{◌≡◌, ℕ, List, [], ◌∷◌, Option, refl,
 use Rattle.std.specs.Prelude.{◌==◌}
 use Rattle.std.proofs.lemmas.Bool.{eqb-true, cases_Bool}
 use Rattle.ring_codec.specs.Reading.{IsFormat}
-use Rattle.ring_codec.specs.Formats.{Format, empty}
-use Rattle.ring_codec.specs.Cases.{Case, case, tagged_cases_at, IsMade, cases_format}
+use Rattle.ring_codec.specs.Formats.{Format, empty_format_of_unit}
+use Rattle.ring_codec.specs.TaggedCases.{Case, tagged_case, tagged_cases_at, IsMade, cases_format}
 use Rattle.ring_payload.specs.declared.content.Payload.{Payload}
 use Rattle.ring_payload.specs.declared.content.Payload.TheVariants as payloads
 use Rattle.ring_payload.specs.Limits.{call_tag, wrapped_tag, end_tag, head_tag, part_tag, pack_tag, trimmed_tag, snap_tag}
 use Rattle.ring_payload.specs.Calls.{call, call_encoding, CallFits}
-use Rattle.ring_payload.specs.Heads.{whole_head, trimmed_head, tag_of_head, head_body, HeadFits, is_whole, is_trimmed, positive}
+use Rattle.ring_payload.specs.Heads.{whole_head, trimmed_head, tag_of_head, head_body, HeadFits, untrimmed_head-encoding, trimmed_head-encoding, not_zero_positive}
 use Rattle.ring_payload.specs.Packs.{pack, pack_encoding, PackFits}
 use Rattle.ring_payload.specs.Parts.{part, part_encoding, PartFits}
 use Rattle.ring_payload.specs.Snaps.{snap, snap_encoding, SnapFits}
@@ -53,14 +53,14 @@ PayloadFits (payloads.Snap x) = SnapFits x
 -- the cases of payloads, by their tags
 abbrev payload_cases : {A : Type 0} → List (Case (Payload A))
 payload_cases =
-    case call_tag call payloads.Call ∷
-    case wrapped_tag wrapped payloads.Wrapped ∷
-    case end_tag empty (λ u. payloads.End) ∷
-    case head_tag whole_head payloads.Head ∷
-    case part_tag part payloads.Part ∷
-    case pack_tag pack payloads.Pack ∷
-    case trimmed_tag trimmed_head payloads.Head ∷
-    case snap_tag snap payloads.Snap ∷ []
+    tagged_case call_tag call payloads.Call ∷
+    tagged_case wrapped_tag wrapped payloads.Wrapped ∷
+    tagged_case end_tag empty_format_of_unit (λ u. payloads.End) ∷
+    tagged_case head_tag whole_head payloads.Head ∷
+    tagged_case part_tag part payloads.Part ∷
+    tagged_case pack_tag pack payloads.Pack ∷
+    tagged_case trimmed_tag trimmed_head payloads.Head ∷
+    tagged_case snap_tag snap payloads.Snap ∷ []
 
 -- reads a payload from the front
 unfoldable pub payload_at : {A : Type 0} → List ℕ → Option (Payload A × List ℕ)
@@ -72,7 +72,7 @@ payload_made (payloads.Wrapped x) f = (x, f, refl)
 payload_made payloads.End f = (tt, f, refl)
 payload_made (payloads.Head x) f = elim (cases_Bool (x.trimmed == 0)) [
   | inl e ↦ rw e (x, (f, eqb-true _ _ e), refl)
-  | inr e ↦ rw e (x, (f, positive x.trimmed e), refl)
+  | inr e ↦ rw e (x, (f, not_zero_positive x.trimmed e), refl)
 ]
 payload_made (payloads.Part x) f = (x, f, refl)
 payload_made (payloads.Pack x) f = (x, f, refl)
@@ -89,8 +89,8 @@ payload_format {A} = cases_format (payload_cases {A = A}) payload_tag payload_bo
       (
         λ x f. (refl, (refl, f)),
         (
-          λ h f. let t = is_whole h f.1 in (t.0, (t.1, f.0)),
-          (λ x f. (refl, (refl, f)), (λ x f. (refl, (refl, f)), (λ h f. let t = is_trimmed h f.1 in (t.0, (t.1, f.0)), (λ x f. (refl, (refl, f)), tt)))),
+          λ h f. let t = untrimmed_head-encoding h f.1 in (t.0, (t.1, f.0)),
+          (λ x f. (refl, (refl, f)), (λ x f. (refl, (refl, f)), (λ h f. let t = trimmed_head-encoding h f.1 in (t.0, (t.1, f.0)), (λ x f. (refl, (refl, f)), tt)))),
         ),
       ),
     ),

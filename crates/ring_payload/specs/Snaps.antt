@@ -5,9 +5,9 @@ use Rattle.std.proofs.Common.{◌≡◌, ℕ, ◌-◌, ◌%◌, ◌<◌, ◌≤�
 use Rattle.std.specs.Prelude.{nat_le, nat_lt, ◌&&◌, ◌==◌, min}
 use Rattle.std.proofs.lemmas.Bool.{leb-true, le-leb, ltb-true, lt-ltb, eqb-true, and_parts}
 use Rattle.byteorder.specs.Endian.{big_bytes}
-use Rattle.ring_codec.specs.Base.{max_number}
-use Rattle.ring_codec.specs.Reading.{IsFormat, made_at, ◌⊕◌}
-use Rattle.ring_codec.specs.Formats.{Format, u16_field, u32_field, u64_field, text, ◌&◌, followed, such, fields_format}
+use Rattle.ring_codec.specs.BaseReexports.{max_number}
+use Rattle.ring_codec.specs.Reading.{IsFormat, mapped_at, ◌⊕◌}
+use Rattle.ring_codec.specs.Formats.{Format, u16_field, u32_field, u64_field, text, ◌&◌, dependent_pair_format, tested_format, fields_format}
 use Rattle.ring_payload.specs.declared.snap.Snap.{Snap}
 use Rattle.ring_payload.specs.Limits.{max_snapshot, max_piece_bytes}
 
@@ -37,26 +37,26 @@ is_piece at total offset count =
     (nat_lt offset total && ((offset % max_piece_bytes == 0) && (count == piece_length total offset))))))
 
 -- the four numbers before the bytes: places, the snapshot's length, the offset, the count
-abbrev Numbers : Type 0
-Numbers = ℕ × (ℕ × (ℕ × ℕ))
+abbrev PieceFields : Type 0
+PieceFields = ℕ × (ℕ × (ℕ × ℕ))
 
 -- the format of these numbers within their limits
-abbrev piece_numbers : Format Numbers
-piece_numbers = such (λ p. is_piece p.0 p.1.0 p.1.1.0 p.1.1.1) (u64_field & u32_field & u32_field & u16_field)
+abbrev piece_numbers : Format PieceFields
+piece_numbers = tested_format (λ p. is_piece p.0 p.1.0 p.1.1.0 p.1.1.1) (u64_field & u32_field & u32_field & u16_field)
 
 -- the fields of a piece: the four numbers and the bytes
-abbrev snap_fields : Format (Numbers × List ℕ)
-snap_fields = followed piece_numbers (λ p. text p.1.1.1)
+abbrev snap_fields : Format (PieceFields × List ℕ)
+snap_fields = dependent_pair_format piece_numbers (λ p. text p.1.1.1)
 
 -- the piece with these fields
-abbrev from_fields : {A : Type 0} → Numbers × List ℕ → Snap A
+abbrev from_fields : {A : Type 0} → PieceFields × List ℕ → Snap A
 from_fields p = record { at = p.0.0; total = p.0.1.0; offset = p.0.1.1.0; bytes = p.1 }
 
 -- reads a piece from the front
 unfoldable pub snap_at : {A : Type 0} → List ℕ → Option (Snap A × List ℕ)
-snap_at bytes = made_at from_fields snap_fields.at bytes
+snap_at bytes = mapped_at from_fields snap_fields.at bytes
 
-piece_fits : {A : Type 0} (p : Numbers × List ℕ) → snap_fields.Fits p → SnapFits {A = A} (from_fields p)
+piece_fits : {A : Type 0} (p : PieceFields × List ℕ) → snap_fields.Fits p → SnapFits {A = A} (from_fields p)
 piece_fits p f =
     let a = and_parts _ _ f.0.1 in
     let b = and_parts _ _ a.1 in

@@ -2,8 +2,8 @@
 -- log, otherwise 1.
 -- Formats: Frames
 use Rattle.std.specs.Prelude.{ℕ, ◌==◌, if◌then◌else◌}
-use Rattle.ring_payload.specs.declared.content.Content.{Content}
-use Rattle.ring_payload.specs.declared.content.Content.TheVariants as contents
+use Rattle.ring_payload.specs.declared.content.WrappedPayload.{WrappedPayload}
+use Rattle.ring_payload.specs.declared.content.WrappedPayload.TheVariants as contents
 use Rattle.ring_payload.specs.declared.content.Payload.{Payload}
 use Rattle.ring_payload.specs.declared.content.Payload.TheVariants as payloads
 use Rattle.ring_payload.specs.declared.head.Head.{Head}
@@ -14,7 +14,7 @@ abbrev pub head_version : Head → ℕ
 head_version h = if h.trimmed == 0 then first_version else trim_version
 
 -- the version for the content of a Wrapped
-abbrev pub content_version : {A : Type 0} → Content A → ℕ
+abbrev pub content_version : {A : Type 0} → WrappedPayload A → ℕ
 content_version (contents.Call x) = first_version
 content_version (contents.Head x) = head_version x
 content_version (contents.Part x) = first_version

@@ -55,7 +55,7 @@ impl<A: Allocator + Copy> Call<A> {
     /// That is 14 to 1,038 for a call within the limits of its format.
     ///
     /// Formats: Numbers and parts
-    pub fn bytes(&self) -> usize
+    pub fn encoded_call_len(&self) -> usize
         ensures { result ≡ call_bytes self.now }
     {
         14 + self.op.as_slice().len()
@@ -67,16 +67,16 @@ impl<A: Allocator + Copy> Encode for Call<A> {
 
     ghost encoding = { call_encoding };
 
-    ghost most = { 1038 };
+    ghost max_encoded_len = { 1038 };
 
-    ghost fits = { CallFits };
+    ghost is_within_limits = { CallFits };
 
-    ghost at = { call_at };
+    ghost decoding_at_front = { call_at };
 
-    ghost format = { call_format };
+    ghost decoding_is_exact = { call_format };
 
-    fn size(&self) -> usize {
-        12 + self.op.size()
+    fn encoded_len(&self) -> usize {
+        12 + self.op.encoded_len()
     }
 
     fn write<B: Allocator + Copy>(&self, out: &mut BytesMut<B>) {

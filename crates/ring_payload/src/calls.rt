@@ -5,11 +5,11 @@
 
 ghost use Rattle.std.specs.Prelude.{◌≡◌, ℕ, ◌+◌, ◌^◌, ◌<◌, ◌≤◌, List, [], ◌∷◌, ◌++◌, length};
 ghost use Rattle.ring_codec.specs.Reading.{Appends, IsReadResult};
-ghost use Rattle.ring_payload.specs.Packs.{fits_pack_limit as is_short_pack};
+ghost use Rattle.ring_payload.specs.Packs.{is_within_pack_bytes as is_short_pack};
 
 use crate::call::Call;
 use bytes::BytesMut;
-use ring_codec::{Decode, Encode, Fault, MAX, Reader, read_many, size_many, write_many};
+use ring_codec::{Decode, Encode, Fault, MAX, Reader, decode_list, encode_list, list_encoded_len};
 use std::alloc::{AllocError, Allocator, Global};
 use std::marker::Model;
 
@@ -19,11 +19,11 @@ use std::marker::Model;
 ///
 /// Formats: Payloads
 #[derive(Drop)]
-pub struct Calls<A: Allocator + Copy = Global> {
+pub struct CallList<A: Allocator + Copy = Global> {
     calls: Vec<Call<A>, A>,
 }
 
-impl<A: Allocator + Copy> Model for Calls<A> {
+impl<A: Allocator + Copy> Model for CallList<A> {
     ghost use Rattle.std.specs.Prelude.{List};
     ghost use Rattle.ring_payload.specs.declared.call.Call.{Call as OneCall};
 
@@ -32,14 +32,14 @@ impl<A: Allocator + Copy> Model for Calls<A> {
     ghost view = { λ c. c.calls.items };
 }
 
-impl<A: Allocator + Copy> Calls<A> {
+impl<A: Allocator + Copy> CallList<A> {
     /// Returns the list of `calls`, in their order.
     ///
     /// It takes ownership of the vector. Does not allocate.
-    pub fn from_vec(calls: Vec<Call<A>, A>) -> Calls<A>
+    pub fn from_vec(calls: Vec<Call<A>, A>) -> CallList<A>
         ensures { result ≡ calls.items }
     {
-        Calls { calls }
+        CallList { calls }
     }
 
     /// Returns the calls as an owned vector, in their order.
@@ -59,11 +59,11 @@ impl<A: Allocator + Copy> Calls<A> {
     }
 }
 
-impl<A: Allocator + Copy> Clone for Calls<A> {
+impl<A: Allocator + Copy> Clone for CallList<A> {
     ghost is_clone = { λ calls copy. copy ≡ calls };
 
-    fn clone(&self) -> Result<Calls<A>, AllocError> {
-        Ok(Calls {
+    fn clone(&self) -> Result<CallList<A>, AllocError> {
+        Ok(CallList {
             calls: self.calls.clone()?,
         })
     }
@@ -85,7 +85,7 @@ pub struct Part<A: Allocator + Copy = Global> {
     /// The place of the first call in the log, counted from 0 and at most `MAX`.
     pub first: u64,
     /// The calls, 1 to 7, in the order of their places.
-    pub calls: Calls<A>,
+    pub calls: CallList<A>,
 }
 
 impl<A: Allocator + Copy> Encode for Part<A> {
@@ -93,23 +93,23 @@ impl<A: Allocator + Copy> Encode for Part<A> {
 
     ghost encoding = { part_encoding };
 
-    ghost most = { 7275 };
+    ghost max_encoded_len = { 7275 };
 
-    ghost fits = { PartFits };
+    ghost is_within_limits = { PartFits };
 
-    ghost at = { part_at };
+    ghost decoding_at_front = { part_at };
 
-    ghost format = { part_format };
+    ghost decoding_is_exact = { part_format };
 
-    fn size(&self) -> usize {
-        9 + size_many(self.calls.as_slice())
+    fn encoded_len(&self) -> usize {
+        9 + list_encoded_len(self.calls.as_slice())
     }
 
     fn write<B: Allocator + Copy>(&self, out: &mut BytesMut<B>) {
         let calls = self.calls.as_slice();
         self.first.write(out);
         (calls.len() as u8).write(out);
-        write_many(calls, out);
+        encode_list(calls, out);
     }
 }
 
@@ -124,10 +124,10 @@ impl<A: Allocator + Copy> Decode<A> for Part<A> {
         if count < 1 || count > MAX_PART_CALLS {
             return Err(Fault::BadFrame);
         }
-        let calls = read_many(alloc, count as usize, from)?;
+        let calls = decode_list(alloc, count as usize, from)?;
         Ok(Part {
             first,
-            calls: Calls::from_vec(calls),
+            calls: CallList::from_vec(calls),
         })
     }
 }
@@ -139,7 +139,7 @@ impl<A: Allocator + Copy> Decode<A> for Part<A> {
 #[derive(Clone, Drop)]
 pub struct Pack<A: Allocator + Copy = Global> {
     /// The calls, 2 to 16, in the order in which their sender queued them.
-    pub calls: Calls<A>,
+    pub calls: CallList<A>,
 }
 
 /// The maximum number of calls of a [`Pack`].
@@ -155,12 +155,12 @@ pub const MAX_PACK_CALLS: u8 = 16;
 pub const MAX_PACK_BYTES: usize = 7276;
 
 /// Returns whether a pack of `calls` is at most `MAX_PACK_BYTES` long.
-fn fits_pack_limit<A: Allocator + Copy>(calls: &[Call<A>]) -> bool
+fn is_within_pack_bytes<A: Allocator + Copy>(calls: &[Call<A>]) -> bool
     ensures { result ≡ is_short_pack calls.now }
 {
     let mut left = MAX_PACK_BYTES - 2;
     for call in calls {
-        let bytes = call.bytes();
+        let bytes = call.encoded_call_len();
         if bytes > left {
             return false;
         }
@@ -174,22 +174,22 @@ impl<A: Allocator + Copy> Encode for Pack<A> {
 
     ghost encoding = { pack_encoding };
 
-    ghost most = { 7275 };
+    ghost max_encoded_len = { 7275 };
 
-    ghost fits = { PackFits };
+    ghost is_within_limits = { PackFits };
 
-    ghost at = { pack_at };
+    ghost decoding_at_front = { pack_at };
 
-    ghost format = { pack_format };
+    ghost decoding_is_exact = { pack_format };
 
-    fn size(&self) -> usize {
-        1 + size_many(self.calls.as_slice())
+    fn encoded_len(&self) -> usize {
+        1 + list_encoded_len(self.calls.as_slice())
     }
 
     fn write<B: Allocator + Copy>(&self, out: &mut BytesMut<B>) {
         let calls = self.calls.as_slice();
         (calls.len() as u8).write(out);
-        write_many(calls, out);
+        encode_list(calls, out);
     }
 }
 
@@ -200,12 +200,12 @@ impl<A: Allocator + Copy> Decode<A> for Pack<A> {
         if count < 2 || count > MAX_PACK_CALLS {
             return Err(Fault::BadFrame);
         }
-        let calls = read_many(alloc, count as usize, from)?;
-        if !fits_pack_limit(calls.as_slice()) {
+        let calls = decode_list(alloc, count as usize, from)?;
+        if !is_within_pack_bytes(calls.as_slice()) {
             return Err(Fault::BadFrame);
         }
         Ok(Pack {
-            calls: Calls::from_vec(calls),
+            calls: CallList::from_vec(calls),
         })
     }
 }

@@ -8,10 +8,10 @@ ghost use Rattle.ring_codec.specs.Reading.{Appends, IsReadResult};
 
 use crate::call::Call;
 use crate::calls::{Pack, Part};
+use crate::frame_versions::{FIRST_VERSION, PACK_VERSION, TRIM_VERSION};
 use crate::head::Head;
+use crate::payload_tags;
 use crate::snap::Snap;
-use crate::tags;
-use crate::versions::{FIRST_VERSION, PACK_VERSION, TRIM_VERSION};
 use bytes::BytesMut;
 use ring_codec::{Decode, Encode, Fault, MAX, Proc, Reader, RingId};
 use std::alloc::{Allocator, Global};
@@ -21,7 +21,7 @@ use std::alloc::{Allocator, Global};
 /// Rules: Recovery 4
 /// Formats: Payloads
 #[derive(Clone, Drop)]
-pub enum Content<A: Allocator + Copy = Global> {
+pub enum WrappedPayload<A: Allocator + Copy = Global> {
     /// One call of a client.
     Call(Call<A>),
     /// A member's summary of its log.
@@ -47,7 +47,7 @@ pub struct Wrapped<A: Allocator + Copy = Global> {
     /// The member of the old ring that sent the message there.
     pub sender: Proc,
     /// The payload that the message had in the old ring.
-    pub payload: Content<A>,
+    pub payload: WrappedPayload<A>,
 }
 
 /// The payload of a message: calls for the log, or what recovery and the exchange send.
@@ -71,80 +71,84 @@ pub enum Payload<A: Allocator + Copy = Global> {
     Snap(Snap<A>),
 }
 
-impl<A: Allocator + Copy> Encode for Content<A> {
+impl<A: Allocator + Copy> Encode for WrappedPayload<A> {
     ghost use Rattle.ring_payload.specs.Contents.{content_encoding, ContentFits, content_at, content_format};
 
     ghost encoding = { content_encoding };
 
-    ghost most = { 7276 };
+    ghost max_encoded_len = { 7276 };
 
-    ghost fits = { ContentFits };
+    ghost is_within_limits = { ContentFits };
 
-    ghost at = { content_at };
+    ghost decoding_at_front = { content_at };
 
-    ghost format = { content_format };
+    ghost decoding_is_exact = { content_format };
 
-    fn size(&self) -> usize {
+    fn encoded_len(&self) -> usize {
         match self {
-            Content::Call(call) => 1 + call.size(),
-            Content::Head(head) => head.size(),
-            Content::Part(part) => 1 + part.size(),
-            Content::Pack(pack) => 1 + pack.size(),
-            Content::Snap(snap) => 1 + snap.size(),
+            WrappedPayload::Call(call) => 1 + call.encoded_len(),
+            WrappedPayload::Head(head) => head.encoded_len(),
+            WrappedPayload::Part(part) => 1 + part.encoded_len(),
+            WrappedPayload::Pack(pack) => 1 + pack.encoded_len(),
+            WrappedPayload::Snap(snap) => 1 + snap.encoded_len(),
         }
     }
 
     fn write<B: Allocator + Copy>(&self, out: &mut BytesMut<B>) {
         match self {
-            Content::Call(call) => {
-                tags::CALL.write(out);
+            WrappedPayload::Call(call) => {
+                payload_tags::CALL.write(out);
                 call.write(out);
             }
-            Content::Head(head) => head.write(out),
-            Content::Part(part) => {
-                tags::PART.write(out);
+            WrappedPayload::Head(head) => head.write(out),
+            WrappedPayload::Part(part) => {
+                payload_tags::PART.write(out);
                 part.write(out);
             }
-            Content::Pack(pack) => {
-                tags::PACK.write(out);
+            WrappedPayload::Pack(pack) => {
+                payload_tags::PACK.write(out);
                 pack.write(out);
             }
-            Content::Snap(snap) => {
-                tags::SNAP.write(out);
+            WrappedPayload::Snap(snap) => {
+                payload_tags::SNAP.write(out);
                 snap.write(out);
             }
         }
     }
 }
 
-impl<A: Allocator + Copy> Decode<A> for Content<A> {
+impl<A: Allocator + Copy> Decode<A> for WrappedPayload<A> {
     #[tactic(auto, unfolding(crate::specs::Contents::content_at))]
-    fn read(alloc: A, from: &mut Reader<'_>) -> Result<Content<A>, Fault> {
+    fn read(alloc: A, from: &mut Reader<'_>) -> Result<WrappedPayload<A>, Fault> {
         let tag: u8 = Decode::read(alloc, from)?;
         match tag {
-            tags::CALL => Ok(Content::Call(Decode::read(alloc, from)?)),
-            tags::HEAD => Ok(Content::Head(Head::read_whole(alloc, from)?)),
-            tags::PART => Ok(Content::Part(Decode::read(alloc, from)?)),
-            tags::PACK => Ok(Content::Pack(Decode::read(alloc, from)?)),
-            tags::TRIMMED_HEAD => Ok(Content::Head(Head::read_trimmed(alloc, from)?)),
-            tags::SNAP => Ok(Content::Snap(Decode::read(alloc, from)?)),
+            payload_tags::CALL => Ok(WrappedPayload::Call(Decode::read(alloc, from)?)),
+            payload_tags::HEAD => Ok(WrappedPayload::Head(Head::decode_untrimmed_head(
+                alloc, from,
+            )?)),
+            payload_tags::PART => Ok(WrappedPayload::Part(Decode::read(alloc, from)?)),
+            payload_tags::PACK => Ok(WrappedPayload::Pack(Decode::read(alloc, from)?)),
+            payload_tags::TRIMMED_HEAD => Ok(WrappedPayload::Head(Head::decode_trimmed_head(
+                alloc, from,
+            )?)),
+            payload_tags::SNAP => Ok(WrappedPayload::Snap(Decode::read(alloc, from)?)),
             _ => Err(Fault::BadFrame),
         }
     }
 }
 
-impl<A: Allocator + Copy> Content<A> {
+impl<A: Allocator + Copy> WrappedPayload<A> {
     ghost use Rattle.ring_payload.specs.Versions.{content_version};
 
     /// Returns the version of a frame that carries this content in a Wrapped.
-    fn version(&self) -> u8
+    fn frame_version(&self) -> u8
         ensures { result ≡ content_version self.now }
     {
         match self {
-            Content::Call(_) | Content::Part(_) => FIRST_VERSION,
-            Content::Head(head) => head.version(),
-            Content::Pack(_) => PACK_VERSION,
-            Content::Snap(_) => TRIM_VERSION,
+            WrappedPayload::Call(_) | WrappedPayload::Part(_) => FIRST_VERSION,
+            WrappedPayload::Head(head) => head.head_frame_version(),
+            WrappedPayload::Pack(_) => PACK_VERSION,
+            WrappedPayload::Snap(_) => TRIM_VERSION,
         }
     }
 }
@@ -158,13 +162,13 @@ impl<A: Allocator + Copy> Payload<A> {
     /// the version of its content.
     ///
     /// Formats: Frames
-    pub fn version(&self) -> u8
+    pub fn frame_version(&self) -> u8
         ensures { result ≡ payload_version self.now }
     {
         match self {
             Payload::Call(_) | Payload::End | Payload::Part(_) => FIRST_VERSION,
-            Payload::Wrapped(wrapped) => wrapped.payload.version(),
-            Payload::Head(head) => head.version(),
+            Payload::Wrapped(wrapped) => wrapped.payload.frame_version(),
+            Payload::Head(head) => head.head_frame_version(),
             Payload::Pack(_) => PACK_VERSION,
             Payload::Snap(_) => TRIM_VERSION,
         }
@@ -176,7 +180,7 @@ impl<A: Allocator + Copy> Wrapped<A> {
 
     /// Returns whether the fields are within the limits of a Wrapped, except for the limit that the message's ring
     /// sets.
-    fn is_valid(&self) -> bool
+    fn is_valid_wrapped(&self) -> bool
         ensures { result ≡ wrapped_test self.now }
     {
         self.ring.seq >= 1 && self.number >= 1 && self.number <= MAX
@@ -188,16 +192,16 @@ impl<A: Allocator + Copy> Encode for Wrapped<A> {
 
     ghost encoding = { wrapped_encoding };
 
-    ghost most = { 7294 };
+    ghost max_encoded_len = { 7294 };
 
-    ghost fits = { WrappedFits };
+    ghost is_within_limits = { WrappedFits };
 
-    ghost at = { wrapped_at };
+    ghost decoding_at_front = { wrapped_at };
 
-    ghost format = { wrapped_format };
+    ghost decoding_is_exact = { wrapped_format };
 
-    fn size(&self) -> usize {
-        18 + self.payload.size()
+    fn encoded_len(&self) -> usize {
+        18 + self.payload.encoded_len()
     }
 
     fn write<B: Allocator + Copy>(&self, out: &mut BytesMut<B>) {
@@ -217,7 +221,7 @@ impl<A: Allocator + Copy> Decode<A> for Wrapped<A> {
             sender: Decode::read(alloc, from)?,
             payload: Decode::read(alloc, from)?,
         };
-        if !wrapped.is_valid() {
+        if !wrapped.is_valid_wrapped() {
             return Err(Fault::BadFrame);
         }
         Ok(wrapped)
@@ -229,48 +233,48 @@ impl<A: Allocator + Copy> Encode for Payload<A> {
 
     ghost encoding = { payload_encoding };
 
-    ghost most = { 7295 };
+    ghost max_encoded_len = { 7295 };
 
-    ghost fits = { PayloadFits };
+    ghost is_within_limits = { PayloadFits };
 
-    ghost at = { payload_at };
+    ghost decoding_at_front = { payload_at };
 
-    ghost format = { payload_format };
+    ghost decoding_is_exact = { payload_format };
 
-    fn size(&self) -> usize {
+    fn encoded_len(&self) -> usize {
         match self {
-            Payload::Call(call) => 1 + call.size(),
-            Payload::Wrapped(wrapped) => 1 + wrapped.size(),
+            Payload::Call(call) => 1 + call.encoded_len(),
+            Payload::Wrapped(wrapped) => 1 + wrapped.encoded_len(),
             Payload::End => 1,
-            Payload::Head(head) => head.size(),
-            Payload::Part(part) => 1 + part.size(),
-            Payload::Pack(pack) => 1 + pack.size(),
-            Payload::Snap(snap) => 1 + snap.size(),
+            Payload::Head(head) => head.encoded_len(),
+            Payload::Part(part) => 1 + part.encoded_len(),
+            Payload::Pack(pack) => 1 + pack.encoded_len(),
+            Payload::Snap(snap) => 1 + snap.encoded_len(),
         }
     }
 
     fn write<B: Allocator + Copy>(&self, out: &mut BytesMut<B>) {
         match self {
             Payload::Call(call) => {
-                tags::CALL.write(out);
+                payload_tags::CALL.write(out);
                 call.write(out);
             }
             Payload::Wrapped(wrapped) => {
-                tags::WRAPPED.write(out);
+                payload_tags::WRAPPED.write(out);
                 wrapped.write(out);
             }
-            Payload::End => tags::END.write(out),
+            Payload::End => payload_tags::END.write(out),
             Payload::Head(head) => head.write(out),
             Payload::Part(part) => {
-                tags::PART.write(out);
+                payload_tags::PART.write(out);
                 part.write(out);
             }
             Payload::Pack(pack) => {
-                tags::PACK.write(out);
+                payload_tags::PACK.write(out);
                 pack.write(out);
             }
             Payload::Snap(snap) => {
-                tags::SNAP.write(out);
+                payload_tags::SNAP.write(out);
                 snap.write(out);
             }
         }
@@ -282,14 +286,20 @@ impl<A: Allocator + Copy> Decode<A> for Payload<A> {
     fn read(alloc: A, from: &mut Reader<'_>) -> Result<Payload<A>, Fault> {
         let tag: u8 = Decode::read(alloc, from)?;
         match tag {
-            tags::CALL => Decode::read(alloc, from).map(|call| Payload::Call(call)),
-            tags::WRAPPED => Decode::read(alloc, from).map(|wrapped| Payload::Wrapped(wrapped)),
-            tags::END => Ok(Payload::End),
-            tags::HEAD => Head::read_whole(alloc, from).map(|head| Payload::Head(head)),
-            tags::PART => Decode::read(alloc, from).map(|part| Payload::Part(part)),
-            tags::PACK => Decode::read(alloc, from).map(|pack| Payload::Pack(pack)),
-            tags::TRIMMED_HEAD => Head::read_trimmed(alloc, from).map(|head| Payload::Head(head)),
-            tags::SNAP => Decode::read(alloc, from).map(|snap| Payload::Snap(snap)),
+            payload_tags::CALL => Decode::read(alloc, from).map(|call| Payload::Call(call)),
+            payload_tags::WRAPPED => Decode::read(alloc, from).map(|wrapped| Payload::Wrapped(
+                wrapped,
+            )),
+            payload_tags::END => Ok(Payload::End),
+            payload_tags::HEAD => Head::decode_untrimmed_head(alloc, from).map(|head| Payload::Head(
+                head,
+            )),
+            payload_tags::PART => Decode::read(alloc, from).map(|part| Payload::Part(part)),
+            payload_tags::PACK => Decode::read(alloc, from).map(|pack| Payload::Pack(pack)),
+            payload_tags::TRIMMED_HEAD => Head::decode_trimmed_head(alloc, from).map(
+                |head| Payload::Head(head),
+            ),
+            payload_tags::SNAP => Decode::read(alloc, from).map(|snap| Payload::Snap(snap)),
             _ => Err(Fault::BadFrame),
         }
     }

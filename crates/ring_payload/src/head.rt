@@ -6,8 +6,8 @@
 ghost use Rattle.std.specs.Prelude.{◌≡◌, ℕ, ◌+◌, ◌^◌, ◌<◌, ◌≤◌, List, [], ◌∷◌, ◌++◌, length};
 ghost use Rattle.ring_codec.specs.Reading.{Appends, IsReadResult};
 
-use crate::tags;
-use crate::versions::{FIRST_VERSION, TRIM_VERSION};
+use crate::frame_versions::{FIRST_VERSION, TRIM_VERSION};
+use crate::payload_tags;
 use bytes::BytesMut;
 use ring_codec::{Decode, Encode, Fault, MAX, Reader, RingId};
 use std::alloc::Allocator;
@@ -36,20 +36,20 @@ impl Head {
     ghost use Rattle.ring_payload.specs.Versions.{head_version};
 
     /// Returns the tag of this Head: 4 if its trimmed length is 0, otherwise 7.
-    fn tag(&self) -> u8
+    fn head_tag_byte(&self) -> u8
         ensures { result ≡ tag_of_head self.now }
     {
         if self.trimmed == 0 {
-            tags::HEAD
+            payload_tags::HEAD
         } else {
-            tags::TRIMMED_HEAD
+            payload_tags::TRIMMED_HEAD
         }
     }
 
     /// Returns the version of a frame that carries this Head: 1 if its trimmed length is 0, otherwise 3.
     ///
     /// Formats: Frames
-    pub(crate) fn version(&self) -> u8
+    pub(crate) fn head_frame_version(&self) -> u8
         ensures { result ≡ head_version self.now }
     {
         if self.trimmed == 0 {
@@ -60,7 +60,7 @@ impl Head {
     }
 
     /// Returns whether the fields are within the limits of their format, for either tag.
-    fn is_valid(&self) -> bool
+    fn is_valid_head(&self) -> bool
         ensures { result ≡ head_test self.now }
     {
         self.trimmed <= self.committed
@@ -75,7 +75,7 @@ impl Head {
     ///
     /// Formats: Payloads
     #[tactic(auto, unfolding(crate::specs::Heads::whole_at))]
-    pub(crate) fn read_whole<A: Allocator + Copy>(
+    pub(crate) fn decode_untrimmed_head<A: Allocator + Copy>(
         alloc: A,
         from: &mut Reader<'_>,
     ) -> Result<Head, Fault>
@@ -87,7 +87,7 @@ impl Head {
             committed: Decode::read(alloc, from)?,
             trimmed: 0,
         };
-        if !head.is_valid() {
+        if !head.is_valid_head() {
             return Err(Fault::BadFrame);
         }
         Ok(head)
@@ -99,7 +99,7 @@ impl Head {
     ///
     /// Formats: Payloads
     #[tactic(auto, unfolding(crate::specs::Heads::trimmed_at))]
-    pub(crate) fn read_trimmed<A: Allocator + Copy>(
+    pub(crate) fn decode_trimmed_head<A: Allocator + Copy>(
         alloc: A,
         from: &mut Reader<'_>,
     ) -> Result<Head, Fault>
@@ -111,7 +111,7 @@ impl Head {
             committed: Decode::read(alloc, from)?,
             trimmed: Decode::read(alloc, from)?,
         };
-        if head.trimmed < 1 || !head.is_valid() {
+        if head.trimmed < 1 || !head.is_valid_head() {
             return Err(Fault::BadFrame);
         }
         Ok(head)
@@ -126,20 +126,20 @@ impl Encode for Head {
 
     ghost encoding = { head_encoding };
 
-    ghost most = { 34 };
+    ghost max_encoded_len = { 34 };
 
-    ghost fits = { HeadFits };
+    ghost is_within_limits = { HeadFits };
 
-    ghost at = { head_at };
+    ghost decoding_at_front = { head_at };
 
-    ghost format = { head_format };
+    ghost decoding_is_exact = { head_format };
 
-    fn size(&self) -> usize {
+    fn encoded_len(&self) -> usize {
         if self.trimmed == 0 { 26 } else { 34 }
     }
 
     fn write<B: Allocator + Copy>(&self, out: &mut BytesMut<B>) {
-        self.tag().write(out);
+        self.head_tag_byte().write(out);
         self.last.write(out);
         self.length.write(out);
         self.committed.write(out);
@@ -154,8 +154,8 @@ impl<A: Allocator + Copy> Decode<A> for Head {
     fn read(alloc: A, from: &mut Reader<'_>) -> Result<Head, Fault> {
         let tag: u8 = Decode::read(alloc, from)?;
         match tag {
-            tags::HEAD => Head::read_whole(alloc, from),
-            tags::TRIMMED_HEAD => Head::read_trimmed(alloc, from),
+            payload_tags::HEAD => Head::decode_untrimmed_head(alloc, from),
+            payload_tags::TRIMMED_HEAD => Head::decode_trimmed_head(alloc, from),
             _ => Err(Fault::BadFrame),
         }
     }

@@ -9,23 +9,24 @@
 mod call;
 mod calls;
 mod content;
+mod frame_versions;
 mod head;
 mod operation;
+mod payload_equality;
+mod payload_tags;
 mod piece;
-mod same;
 mod snap;
-mod tags;
-mod versions;
 
 pub use call::Call;
-pub use calls::{Calls, MAX_PACK_BYTES, MAX_PACK_CALLS, MAX_PART_CALLS, Pack, Part};
-pub use content::{Content, Payload, Wrapped};
+pub use calls::{CallList, MAX_PACK_BYTES, MAX_PACK_CALLS, MAX_PART_CALLS, Pack, Part};
+pub use content::{Payload, Wrapped, WrappedPayload};
+pub use frame_versions::FIRST_VERSION;
 pub use head::Head;
 pub use operation::{CallOperation, MAX_OPERATION};
-pub use piece::Piece;
+pub use piece::PieceBytes;
 pub use ring_codec::{
     Decode, Encode, EncodedNumbers, Fault, Ghost, MAX, PROCESSORS, Proc, ProcSet, Reader, RingId,
-    WINDOW_SIZE, Wire, ghost_of, read_in_place, read_sized, write_many, write_sized,
+    WINDOW_SIZE, Wire, decode_length_prefixed, decode_list_into, encode_length_prefixed,
+    encode_list, ghost_of,
 };
 pub use snap::{MAX_PIECE_BYTES, MAX_SNAPSHOT, Snap};
-pub use versions::FIRST_VERSION;

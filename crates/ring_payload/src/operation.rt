@@ -5,7 +5,7 @@
 
 ghost use Rattle.std.specs.Prelude.{◌≡◌, ℕ, ◌+◌, ◌^◌, ◌<◌, ◌≤◌, List, [], ◌∷◌, ◌++◌, length, IfOk, IfErr};
 ghost use Rattle.ring_codec.specs.Reading.{Appends, IsReadResult};
-ghost use Rattle.ring_codec.specs.Faults.{Memory};
+ghost use Rattle.ring_codec.specs.FaultReexports.{Memory};
 
 use bytes::BytesMut;
 use ring_codec::{Decode, Encode, Fault, Reader};
@@ -79,15 +79,15 @@ impl<A: Allocator + Copy> Encode for CallOperation<A> {
 
     ghost encoding = { op_encoding };
 
-    ghost most = { 1026 };
+    ghost max_encoded_len = { 1026 };
 
-    ghost fits = { OpFits };
+    ghost is_within_limits = { OpFits };
 
-    ghost at = { op_at };
+    ghost decoding_at_front = { op_at };
 
-    ghost format = { op_format };
+    ghost decoding_is_exact = { op_format };
 
-    fn size(&self) -> usize {
+    fn encoded_len(&self) -> usize {
         2 + self.as_slice().len()
     }
 
@@ -105,7 +105,7 @@ impl<A: Allocator + Copy> Decode<A> for CallOperation<A> {
         if len as usize > MAX_OPERATION {
             return Err(Fault::BadFrame);
         }
-        let bytes = from.take(len as usize)?;
+        let bytes = from.take_bytes(len as usize)?;
         CallOperation::from_slice(alloc, bytes)
     }
 }

@@ -4,7 +4,7 @@
 
 ghost use Rattle.std.specs.Prelude.{◌≡◌, ℕ, ◌≤◌, List, length, IfOk, IfErr};
 ghost use Rattle.ring_codec.specs.Reading.{Appends};
-ghost use Rattle.ring_codec.specs.Faults.{Memory};
+ghost use Rattle.ring_codec.specs.FaultReexports.{Memory};
 
 use bytes::BytesMut;
 use ring_codec::Fault;
@@ -17,17 +17,17 @@ use std::marker::Model;
 ///
 /// Formats: Payloads
 #[derive(Drop)]
-pub struct Piece<A: Allocator + Copy = Global> {
+pub struct PieceBytes<A: Allocator + Copy = Global> {
     bytes: Vec<u8, A>,
 }
 
-impl<A: Allocator + Copy> Model for Piece<A> {
+impl<A: Allocator + Copy> Model for PieceBytes<A> {
     ghost Value = { List ℕ };
 
     ghost view = { λ piece. piece.bytes.items };
 }
 
-impl<A: Allocator + Copy> Piece<A> {
+impl<A: Allocator + Copy> PieceBytes<A> {
     /// Returns a piece with a copy of `bytes`, of any length.
     ///
     /// To be encoded, a piece must have 1 to 7,000 bytes.
@@ -35,11 +35,11 @@ impl<A: Allocator + Copy> Piece<A> {
     /// Errors: `Memory` if an allocation fails.
     ///
     /// Formats: Payloads
-    pub fn from_slice(alloc: A, bytes: &[u8]) -> Result<Piece<A>, Fault>
+    pub fn from_slice(alloc: A, bytes: &[u8]) -> Result<PieceBytes<A>, Fault>
         ensures ok { IfOk result (λ piece. piece ≡ bytes.now) }
         ensures refused { IfErr result (λ fault. fault ≡ Memory) }
     {
-        Ok(Piece {
+        Ok(PieceBytes {
             bytes: Vec::from_slice(alloc, bytes)?,
         })
     }
@@ -64,11 +64,11 @@ impl<A: Allocator + Copy> Piece<A> {
     }
 }
 
-impl<A: Allocator + Copy> Clone for Piece<A> {
+impl<A: Allocator + Copy> Clone for PieceBytes<A> {
     ghost is_clone = { λ piece copy. copy ≡ piece };
 
-    fn clone(&self) -> Result<Piece<A>, AllocError> {
-        Ok(Piece {
+    fn clone(&self) -> Result<PieceBytes<A>, AllocError> {
+        Ok(PieceBytes {
             bytes: self.bytes.clone()?,
         })
     }

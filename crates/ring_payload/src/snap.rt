@@ -7,7 +7,7 @@ ghost use Rattle.std.specs.Prelude.{◌≡◌, ℕ, ◌+◌, ◌^◌, ◌<◌, �
 ghost use Rattle.ring_codec.specs.Reading.{Appends, IsReadResult};
 ghost use Rattle.ring_payload.specs.Snaps.{is_piece as is_piece_of};
 
-use crate::piece::Piece;
+use crate::piece::PieceBytes;
 use bytes::BytesMut;
 use ring_codec::{Decode, Encode, Fault, MAX, Reader};
 use std::alloc::{Allocator, Global};
@@ -38,7 +38,7 @@ pub struct Snap<A: Allocator + Copy = Global> {
     /// The number of the snapshot's bytes before this piece, a multiple of 7,000 below `total`.
     pub offset: u32,
     /// The bytes of the piece: 7,000, or all that are left of the snapshot if fewer are.
-    pub bytes: Piece<A>,
+    pub bytes: PieceBytes<A>,
 }
 
 /// Returns whether a piece may have these fields and `count` bytes.
@@ -59,15 +59,15 @@ impl<A: Allocator + Copy> Encode for Snap<A> {
 
     ghost encoding = { snap_encoding };
 
-    ghost most = { 7018 };
+    ghost max_encoded_len = { 7018 };
 
-    ghost fits = { SnapFits };
+    ghost is_within_limits = { SnapFits };
 
-    ghost at = { snap_at };
+    ghost decoding_at_front = { snap_at };
 
-    ghost format = { snap_format };
+    ghost decoding_is_exact = { snap_format };
 
-    fn size(&self) -> usize {
+    fn encoded_len(&self) -> usize {
         18 + self.bytes.as_slice().len()
     }
 
@@ -90,12 +90,12 @@ impl<A: Allocator + Copy> Decode<A> for Snap<A> {
         if !is_piece(at, total, offset, count) {
             return Err(Fault::BadFrame);
         }
-        let bytes = from.take(count as usize)?;
+        let bytes = from.take_bytes(count as usize)?;
         Ok(Snap {
             at,
             total,
             offset,
-            bytes: Piece::from_slice(alloc, bytes)?,
+            bytes: PieceBytes::from_slice(alloc, bytes)?,
         })
     }
 }

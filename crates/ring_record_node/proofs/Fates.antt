@@ -13,29 +13,29 @@ use Rattle.ring_wire.specs.declared.frame.Frame.TheVariants.{Message as MessageF
 use Rattle.ring_wire.specs.declared.token.Token.{Token}
 use Rattle.ring_commit.specs.Outcomes.{is_at}
 use Rattle.ring_commit.specs.Rounds.{receiver, hop_with_entries}
-use Rattle.ring_token.specs.Turns.{first_token}
+use Rattle.ring_token.specs.TokenVisits.{first_token}
 use Rattle.ring_core_spec.specs.declared.input.Input.{Input}
 use Rattle.ring_core_spec.specs.declared.input.Input.TheVariants.{Frame as CoreFrame}
 use Rattle.ring_core_spec.specs.declared.out.Out.{Out}
-use Rattle.ring_core_spec.specs.Transitions.{apply_transition, may_propose_after, with_proposal_if, done}
+use Rattle.ring_core_spec.specs.Transitions.{apply_transition, may_propose_after, with_proposal_if, transition_and_proposal}
 use Rattle.ring_core_spec.specs.Deciding.{Transition, Ignore, Visit, Fill, Learn, decide, decide_token, decide_round, decide_frame, decide_if_named}
-use Rattle.ring_core_spec.specs.Giving.{addressed}
-use Rattle.ring_core_spec.specs.Handing.{commit_sent_on, after_proposal, takes_first_round, takes_second_round, takes_start}
+use Rattle.ring_core_spec.specs.Giving.{sends_with_receivers}
+use Rattle.ring_core_spec.specs.CommitSteps.{commit_sent_on, after_proposal, takes_first_round, takes_second_round, takes_start}
 use Rattle.ring_core_spec.specs.Joining.{proposes}
 use Rattle.ring_core_spec.specs.Naming.{is_named}
 use Rattle.ring_core_spec.specs.State.{Core, OutgoingFrame, TransitionResult}
 use Rattle.ring_core_spec.specs.Stepping.{ring_step}
 use Rattle.ring_core_spec.specs.Views.{own_entry}
-use Rattle.ring_core_spec.specs.Visiting.{accepts, token_forwarded, new_messages, repeated, to_next, to_others}
+use Rattle.ring_core_spec.specs.Visiting.{accepts, token_forwarded, new_messages, messages_sent_again, to_next, to_others}
 use Rattle.ring_log.specs.KnownLog.{KnownLog, known_log_of, retained_log, is_known_log_sound}
 use Rattle.ring_log.specs.Logs.{committed_calls}
-use Rattle.ring_node_spec.specs.DueSends.{due_by}
+use Rattle.ring_node_spec.specs.DueSends.{due_of_outputs}
 use Rattle.ring_node_spec.specs.EpochHistories.{epochs_after}
 use Rattle.ring_node_spec.specs.Nodes.{Node, node_known_log, is_stopped, is_closed, is_restored}
-use Rattle.ring_node_spec.specs.Stepping.{NodeStepResult, with_dropped, newly_committed, drops, ended, did, settled, node_after_outputs, send_of, node_step}
+use Rattle.ring_node_spec.specs.Stepping.{NodeStepResult, with_dropped, newly_committed, drops, step_after_trim, did, settled, node_after_outputs, send_of, node_step}
 use Rattle.ring_node_spec.specs.declared.input.Input.TheVariants.{Frame as FrameInput}
 use Rattle.ring_order_proof.proofs.StepSends.{step_sends}
-use Rattle.ring_clock.specs.StepOutcomes.{has_sent, is_token}
+use Rattle.ring_clock.specs.StepOutcomes.{has_sent_frame, is_token}
 
 -- Frames sent to somebody
 
@@ -48,7 +48,7 @@ to_one i = nonzero (only i) (pow_pos (i - 1))
 
 -- something is sent to somebody
 abbrev Goes : {A : Type 0} → List (OutgoingFrame A) → Type 0
-Goes sends = has_sent (addressed sends) ≡ true
+Goes sends = has_sent_frame (sends_with_receivers sends) ≡ true
 
 goes_first : {A : Type 0} → (s : OutgoingFrame A) (sends : List (OutgoingFrame A)) → not (s.to == nobody) ≡ true → Goes (s ∷ sends)
 goes_first s sends e = rw e refl
@@ -56,7 +56,7 @@ goes_first s sends e = rw e refl
 goes_behind : {A : Type 0} → (before sends : List (OutgoingFrame A)) → Goes sends → Goes (before ++ sends)
 goes_behind [] sends e = e
 goes_behind {A} (s ∷ before) sends e =
-    cond_both (not (s.to == nobody)) (s ∷ addressed (before ++ sends)) (addressed (before ++ sends)) (λ (xs : List (OutgoingFrame A)). has_sent xs ≡ true)
+    cond_both (not (s.to == nobody)) (s ∷ sends_with_receivers (before ++ sends)) (sends_with_receivers (before ++ sends)) (λ (xs : List (OutgoingFrame A)). has_sent_frame xs ≡ true)
     (λ x. refl) (λ x. goes_behind before sends e)
 
 goes_by : {A : Type 0} → (s : OutgoingFrame A) (sends behind : List (OutgoingFrame A)) (b : Bool) → not (s.to == nobody) ≡ b → (Goes sends → Goes (sends ++ behind))
@@ -77,7 +77,7 @@ Sends c a = (a ≡ Ignore) ⊎ Goes (apply_transition c a).sends
 visit_sends : {A : Type 0} → (c : Core A) (t : Token) → Sends c (Visit t)
 visit_sends c t =
     let next = to_next c (token_forwarded c t) in
-    inr (goes_behind (to_others c (repeated c t ++ new_messages c t)) (next ∷ []) (goes_first next [] (to_one (next_member c.running.members c.me))))
+    inr (goes_behind (to_others c (messages_sent_again c t ++ new_messages c t)) (next ∷ []) (goes_first next [] (to_one (next_member c.running.members c.me))))
 
 token_sends : {A : Type 0} → (s : State) (c : Core A) (t : Token) → Sends c (decide_token s c t)
 token_sends Recovery c t = cond_both (accepts c t) (Visit t) Ignore (Sends c) (λ e. visit_sends c t) (λ e. inl refl)
@@ -117,56 +117,56 @@ proposal_behind true did h = goes_before did.sends (after_proposal did.core).sen
 
 -- an ignored input sends nothing
 ignored_sends : {A : Type 0} → (c : Core A) (i : Input A) → decide c i ≡ Ignore → filter_map send_of (ring_step c i).outs ≡ []
-ignored_sends {A} c i e = step_sends c i ∙ ap (λ (a : Transition A). addressed (done c a).sends) e
+ignored_sends {A} c i e = step_sends c i ∙ ap (λ (a : Transition A). sends_with_receivers (transition_and_proposal c a).sends) e
 
 -- a token that is not ignored sends something
-taken_by : {A : Type 0} → (c : Core A) (a : Transition A) → Sends c a → ¬ (a ≡ Ignore) → Goes (done c a).sends
+taken_by : {A : Type 0} → (c : Core A) (a : Transition A) → Sends c a → ¬ (a ≡ Ignore) → Goes (transition_and_proposal c a).sends
 taken_by c a (inl e) taken = absurd (taken e)
 taken_by c a (inr h) taken = proposal_behind (may_propose_after a && proposes (apply_transition c a).core) (apply_transition c a) h
 
 taken_sends : {A : Type 0} → (c : Core A) (frame : Frame A) → is_token (FrameInput frame) ≡ true → ¬ (decide c (CoreFrame frame) ≡ Ignore)
-    → has_sent (filter_map send_of (ring_step c (CoreFrame frame)).outs) ≡ true
+    → has_sent_frame (filter_map send_of (ring_step c (CoreFrame frame)).outs) ≡ true
 taken_sends c frame e taken =
     let i = CoreFrame frame in
-    ap has_sent (step_sends c i) ∙ taken_by c (decide c i) (named_sends (is_named c.total frame) c frame (frame_sends c frame e)) taken
+    ap has_sent_frame (step_sends c i) ∙ taken_by c (decide c i) (named_sends (is_named c.total frame) c frame (frame_sends c frame e)) taken
 
 -- A step of a node
 
 module _ {O A : Type 0} (object : Sequential O) where
   -- dropping places sends nothing
-  ended-sends : (closed : Bool) (k : KnownLog A) (s : NodeStepResult A) → (ended object closed k s).sends ≡ s.sends
-  ended-sends closed k s =
+  step_after_trim-sends : (closed : Bool) (k : KnownLog A) (s : NodeStepResult A) → (step_after_trim object closed k s).sends ≡ s.sends
+  step_after_trim-sends closed k s =
       cond_both (drops object closed k) (record s { node = with_dropped k.committed s.node; dropped = committed_calls (retained_log k) }) s
       (λ (x : NodeStepResult A). x.sends ≡ s.sends) (λ t. refl) (λ f. refl)
 
   settled-sends : (old new : Node A) (outs : List (Out A)) (k : KnownLog A) → (settled object true old new outs k).sends ≡ filter_map send_of outs
-  settled-sends old new outs k = ended-sends (is_closed old.group new.epochs) k (did object old new outs k (newly_committed (node_known_log old) k))
+  settled-sends old new outs k = step_after_trim-sends (is_closed old.group new.epochs) k (did object old new outs k (newly_committed (node_known_log old) k))
 
   ignored_if : (b : Bool) (old new : Node A) (outs : List (Out A)) (k : KnownLog A) → filter_map send_of outs ≡ []
-      → has_sent (settled object b old new outs k).sends ≡ false
+      → has_sent_frame (settled object b old new outs k).sends ≡ false
   ignored_if false old new outs k e = refl
-  ignored_if true old new outs k e = ap has_sent (settled-sends old new outs k ∙ e)
+  ignored_if true old new outs k e = ap has_sent_frame (settled-sends old new outs k ∙ e)
 
-  taken_if : (b : Bool) (old new : Node A) (outs : List (Out A)) (k : KnownLog A) → has_sent (filter_map send_of outs) ≡ true
-      → is_stopped (settled object b old new outs k).node.core.state ≡ false → has_sent (settled object b old new outs k).sends ≡ true
+  taken_if : (b : Bool) (old new : Node A) (outs : List (Out A)) (k : KnownLog A) → has_sent_frame (filter_map send_of outs) ≡ true
+      → is_stopped (settled object b old new outs k).node.core.state ≡ false → has_sent_frame (settled object b old new outs k).sends ≡ true
   taken_if false old new outs k e runs = absurd (cc runs)
-  taken_if true old new outs k e runs = ap has_sent (settled-sends old new outs k) ∙ e
+  taken_if true old new outs k e runs = ap has_sent_frame (settled-sends old new outs k) ∙ e
 
   -- at a token that is ignored, nothing is sent
-  pub nothing_sent : (n : Node A) (frame : Frame A) → decide n.core (CoreFrame frame) ≡ Ignore → has_sent (node_step object n (FrameInput frame)).sends ≡ false
+  pub nothing_sent : (n : Node A) (frame : Frame A) → decide n.core (CoreFrame frame) ≡ Ignore → has_sent_frame (node_step object n (FrameInput frame)).sends ≡ false
   nothing_sent n frame e =
       let s = ring_step n.core (CoreFrame frame) in
       let epochs = epochs_after n.epochs s.outs in
       let k = known_log_of n.group epochs in
-      ignored_if (is_known_log_sound n.group epochs && is_restored object k) n (node_after_outputs n s.core epochs (due_by object n s.core n.epochs s.outs)) s.outs k
+      ignored_if (is_known_log_sound n.group epochs && is_restored object k) n (node_after_outputs n s.core epochs (due_of_outputs object n s.core n.epochs s.outs)) s.outs k
       (ignored_sends n.core (CoreFrame frame) e)
 
   -- at one that is taken, something is, if the node goes on
   pub something_sent : (n : Node A) (frame : Frame A) → is_token (FrameInput frame) ≡ true → ¬ (decide n.core (CoreFrame frame) ≡ Ignore)
-      → is_stopped (node_step object n (FrameInput frame)).node.core.state ≡ false → has_sent (node_step object n (FrameInput frame)).sends ≡ true
+      → is_stopped (node_step object n (FrameInput frame)).node.core.state ≡ false → has_sent_frame (node_step object n (FrameInput frame)).sends ≡ true
   something_sent n frame e taken runs =
       let s = ring_step n.core (CoreFrame frame) in
       let epochs = epochs_after n.epochs s.outs in
       let k = known_log_of n.group epochs in
-      taken_if (is_known_log_sound n.group epochs && is_restored object k) n (node_after_outputs n s.core epochs (due_by object n s.core n.epochs s.outs)) s.outs k
+      taken_if (is_known_log_sound n.group epochs && is_restored object k) n (node_after_outputs n s.core epochs (due_of_outputs object n s.core n.epochs s.outs)) s.outs k
       (taken_sends n.core frame e taken) runs

@@ -5,7 +5,7 @@ use Rattle.std.specs.Io.KnownBytes.{Appends}
 use Rattle.std.proofs.KnownBytes.{Appends-nil, Appends-trans}
 use Rattle.ring_base.proofs.Results.{ok_always}
 use Rattle.ring_base.specs.declared.fault.Fault.{Fault}
-use Rattle.ring_base.specs.declared.kind.Kind.{Kind}
+use Rattle.ring_base.specs.declared.timeout_kind.Kind.{Kind}
 use Rattle.ring_object.specs.Operations.{Sequential}
 use Rattle.ring_node_spec.specs.Stepping.{node_step}
 use Rattle.ring_node_spec.specs.declared.input.Input.TheVariants as input

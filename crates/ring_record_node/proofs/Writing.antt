@@ -5,8 +5,8 @@ use Rattle.std.specs.Io.KnownBytes.{Keeps, Appends}
 use Rattle.std.proofs.KnownBytes.{Appends-nil, Appends-trans, Appends-kept}
 use Rattle.ring_object.specs.Operations.{Sequential}
 use Rattle.ring_records.specs.RecordRequests.{IsRequest}
-use Rattle.ring_records.specs.declared.request.RecordRequest.{RecordRequest}
-use Rattle.ring_records.specs.declared.request.RecordRequest.TheVariants.{Frame, Timeout, Call, Stop, Status, Counts, Time}
+use Rattle.ring_records.specs.declared.record_requests.RecordRequest.{RecordRequest}
+use Rattle.ring_records.specs.declared.record_requests.RecordRequest.TheVariants.{Frame, Timeout, Call, Stop, Status, Counts, Time}
 use Rattle.ring_record_node.specs.NodeOutputs.{RecordNodeView}
 use Rattle.ring_record_node.specs.RecordNodes.{IsRequestDone, IsRecordTaken, HasWrittenUnlessFailed, HasWritten}
 

@@ -6,7 +6,7 @@ use Rattle.ring_base.specs.declared.fault.Fault.{Fault}
 use Rattle.ring_base.specs.declared.fault.Fault.TheVariants.{Stopped, Memory, BadFrame}
 use Rattle.ring_object.specs.Operations.{Sequential}
 use Rattle.ring_records.specs.RecordRequests.{IsRequest}
-use Rattle.ring_records.specs.declared.request.RecordRequest.{RecordRequest}
+use Rattle.ring_records.specs.declared.record_requests.RecordRequest.{RecordRequest}
 use Rattle.ring_record_node.specs.NodeOutputs.{RecordNodeView}
 use Rattle.ring_record_node.specs.RecordNodes.{IsRecordTaken, IsNoRequest}
 

@@ -6,8 +6,8 @@ use Rattle.std.specs.Option.{option_map}
 use Rattle.ring_base.specs.Group.{Group, is_primary}
 use Rattle.ring_base.specs.declared.ring_id.RingId.{RingId}
 use Rattle.ring_payload.specs.declared.call.Call.{Call}
-use Rattle.ring_session.specs.Pendings.{pending_from}
-use Rattle.ring_session.specs.declared.answered.TicketAnswer.{TicketAnswer}
+use Rattle.ring_session.specs.TicketsState.{pending_from}
+use Rattle.ring_session.specs.declared.ticket_answer.TicketAnswer.{TicketAnswer}
 use Rattle.ring_core_spec.specs.Joining.{is_operational}
 use Rattle.ring_core_spec.specs.State.{OutgoingFrame}
 use Rattle.ring_node_spec.specs.Nodes.{Node, node_opening, node_known_log, node_length, node_trimmed}
@@ -17,7 +17,7 @@ use Rattle.ring_node_spec.specs.declared.input.Input.{Input}
 use Rattle.ring_timers.specs.declared.periods.Periods.{Periods}
 use Rattle.ring_timers.specs.Timers.{TimersView}
 use Rattle.ring_clock.specs.Clocks.{ClockView, clock_opening, next_time_of}
-use Rattle.ring_clock.specs.StepOutcomes.{is_token, has_sent, installs}
+use Rattle.ring_clock.specs.StepOutcomes.{is_token, has_sent_frame, installs}
 use Rattle.ring_counts.specs.Counts.{no_counts, count_numbers}
 use Rattle.ring_counts.specs.declared.node_counts.NodeCounts.{NodeCounts}
 use Rattle.ring_counts.specs.declared.node_counts.NodeGauges.{NodeGauges}
@@ -49,7 +49,7 @@ outs_text old s = sends_text s.sends ++ answers_text s.answers ++ restored_text 
 
 -- the outcome of a token, from the input and the frames sent at it
 abbrev pub token_fate : {A : Type 0} → Input A → List (OutgoingFrame A) → TokenOutcome
-token_fate i sends = token_outcome_of (is_token i) (has_sent sends)
+token_fate i sends = token_outcome_of (is_token i) (has_sent_frame sends)
 
 -- a step gave these outputs and left the node idle: one frame at most and nothing else, the ring installed, and all of the log
 -- committed
@@ -66,7 +66,7 @@ has_brought Ignored n sends answers restored committed installed = false
 
 -- what a node with a clock adds to the end of an input's output: nothing before the first time
 abbrev pub timed_end_of : {A : Type 0} → RecordNodeView A → Bool → Option TimedEnd
-timed_end_of r brought = option_map (λ (next : ℕ). record { has_brought = brought; next_time = next }) (next_time_of r.clock)
+timed_end_of r brought = option_map (λ (next : ℕ). record { has_progressed = brought; next_time = next }) (next_time_of r.clock)
 
 -- the end of an input's output: the node's state, the token's outcome, and whether the token brought anything
 abbrev pub end_text : {A : Type 0} → RecordNodeView A → TokenOutcome → Bool → List ℕ

@@ -5,13 +5,13 @@ use Rattle.std.specs.Prelude.{◌≡◌, ℕ, ◌⊎◌, true, false, List, [], 
 use Rattle.std.specs.Io.KnownBytes.{Appends}
 use Rattle.ring_base.specs.declared.fault.Fault.{Fault}
 use Rattle.ring_base.specs.declared.fault.Fault.TheVariants.{Memory, NotMember, Stopped}
-use Rattle.ring_base.specs.declared.kind.Kind.{Kind}
+use Rattle.ring_base.specs.declared.timeout_kind.Kind.{Kind}
 use Rattle.ring_object.specs.Operations.{Sequential}
 use Rattle.ring_payload.specs.Calls.{call_of, IsNewCall}
 use Rattle.ring_wire.specs.IsFrameEncoding.{IsFrameEncoding}
 use Rattle.ring_wire.specs.declared.frame.Frame.{Frame}
 use Rattle.ring_node_spec.specs.Nodes.{Node, node_stopped, is_stopped}
-use Rattle.ring_node_spec.specs.Stepping.{node_step, submit_fault, submitted}
+use Rattle.ring_node_spec.specs.Stepping.{node_step, submit_fault, node_after_submit}
 use Rattle.ring_node_spec.specs.declared.input.Input.{Input}
 use Rattle.ring_node_spec.specs.declared.input.Input.TheVariants as input
 use Rattle.ring_node.specs.Restores.{node_restored}
@@ -22,8 +22,8 @@ use Rattle.ring_counts.specs.Counts.{counts_after_step, counts_after_refusal, co
 use Rattle.ring_counts.specs.declared.node_counts.NodeCounts.{NodeCounts}
 use Rattle.ring_records.specs.RecordRequests.{IsRequest}
 use Rattle.ring_records.specs.NodeRecords.{ticket_record, refusal_record}
-use Rattle.ring_records.specs.declared.request.RecordRequest.{RecordRequest}
-use Rattle.ring_records.specs.declared.request.RecordRequest.TheVariants as asked
+use Rattle.ring_records.specs.declared.record_requests.RecordRequest.{RecordRequest}
+use Rattle.ring_records.specs.declared.record_requests.RecordRequest.TheVariants as asked
 use Rattle.ring_records.specs.declared.token_outcome.TokenOutcome.TheVariants.{NoToken}
 use Rattle.ring_record_node.specs.NodeOutputs.{RecordNodeView, outs_text, token_fate, has_brought, end_text, installed_text, status_text, counts_text}
 
@@ -124,7 +124,7 @@ module _ {O A : Type 0} (object : Sequential O) where
   -- a call was submitted: it got a ticket, or it is no call, which comes first, or the node refused it
   abbrev pub IsSubmission : Node A → ℕ → ℕ → List ℕ → Result ℕ Fault → Node A → Type 0
   IsSubmission old client number operation (Ok ticket) new =
-      (submit_fault old ≡ None) × (ticket ≡ length old.tickets) × (new ≡ submitted old (call_of client number operation))
+      (submit_fault old ≡ None) × (ticket ≡ length old.tickets) × (new ≡ node_after_submit old (call_of client number operation))
       × IsNewCall client number operation (Ok (call_of {A = A} client number operation))
   IsSubmission old client number operation (Err fault) new =
       (new ≡ old) × (IsNewCall {A = A} client number operation (Err fault)

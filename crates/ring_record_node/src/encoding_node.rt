@@ -18,7 +18,7 @@ use bytes::BytesMut;
 use ring_base::{Fault, Fixed, State};
 use ring_node::{Input, Node, Outs};
 use ring_object::Object;
-use ring_order_proof::fit_laws::node_fits_law;
+use ring_order_proof::limit_laws::node_fits_law;
 use ring_payload::Call;
 use ring_session::Ticket;
 use std::marker::Model;

@@ -14,7 +14,7 @@ ghost use Rattle.ring_clock.specs.StepOutcomes.{installs};
 ghost use Rattle.ring_records.specs.NodeRecords.{answers_text, restored_text, all_committed_text, ticket_record, refusal_record};
 ghost use Rattle.ring_records.specs.declared.token_outcome.TokenOutcome.TheVariants.{NoToken};
 ghost use Rattle.ring_record_node.specs.NodeOutputs.{record_node_opening, sends_text, is_idle, has_brought, end_text, timed_end_of, told_membership, members_text, status_text, gauges_of, counts_text};
-ghost use Rattle.ring_records.specs.declared.request.RecordRequest.{RecordRequest};
+ghost use Rattle.ring_records.specs.declared.record_requests.RecordRequest.{RecordRequest};
 ghost use Rattle.ring_record_node.specs.RecordNodes.{IsStepNoted, IsSubmission, Steps, IsStoppedForMemory, IsReceived, IsSubmitted, TimesOut, IsTimeBrought};
 ghost use Rattle.ring_record_node.specs.RecordNodes.{IsRequestDone, IsRecordTaken, IsNoRequest, IsOpeningRefused, HasWrittenUnlessFailed, HasWritten};
 
@@ -22,7 +22,7 @@ use crate::encoded::{EncodedStep, write_encoded};
 use crate::encoding_node::EncodingNode;
 use crate::frame_inputs::input_of;
 use ring_base::{Fault, Fixed, Kind, State};
-use ring_clock::{NodeClock, Periods, has_sent, is_token, step_outcome, timeout_in};
+use ring_clock::{NodeClock, Periods, has_sent_frame, is_token, step_outcome, timeout_in};
 use ring_counts::{CountedInput, NodeCounts, NodeGauges};
 use ring_failure::Failure;
 use ring_node::Input;
@@ -157,7 +157,7 @@ impl<O: Object> RecordNode<O> {
         let is_token = is_token(&input);
         match self.step(input) {
             Ok(encoded) => {
-                let is_taken = has_sent(encoded.outs.sends.as_slice());
+                let is_taken = has_sent_frame(encoded.outs.sends.as_slice());
                 self.write_step_and_end(&encoded, TokenOutcome::new(is_token, is_taken), out)
             }
             Err(fault) => self.write_refusal_and_end(
@@ -404,7 +404,7 @@ impl<O: Object> RecordNode<O> {
     {
         let next_time = self.clock.next_time()?;
         Some(TimedEnd {
-            has_brought,
+            has_progressed: has_brought,
             next_time,
         })
     }

@@ -11,7 +11,7 @@ ghost use Rattle.ring_record_node.specs.Serving.{IsNextServed, AreRecordsServed,
 use crate::record_node::RecordNode;
 use ring_base::{Fault, Fixed};
 use ring_clock::Periods;
-use ring_failure::{Failure, report};
+use ring_failure::{Failure, report_failure};
 use ring_object::Object;
 use ring_records::{MAX_RECORD_BYTES, read_record};
 use std::alloc::Allocator;
@@ -76,7 +76,7 @@ pub fn serve_with_periods<O: Object, R: Read, W: Write, E: Write>(
 {
     match serve_all::<O, R, W>(alloc, fixed, me, periods, input, out) {
         Ok(()) => 0,
-        Err(failure) => report(err, failure),
+        Err(failure) => report_failure(err, failure),
     }
 }
 

@@ -13,7 +13,7 @@ use Rattle.ring_wire.specs.Frames.{encoding_of}
 use Rattle.ring_wire.specs.declared.frame.Frame.{Frame}
 use Rattle.ring_session.specs.declared.answer.Answer.{Answer}
 use Rattle.ring_session.specs.declared.answer.Answer.TheVariants.{Done, Kept, Refused}
-use Rattle.ring_session.specs.declared.answered.TicketAnswer.{TicketAnswer}
+use Rattle.ring_session.specs.declared.ticket_answer.TicketAnswer.{TicketAnswer}
 use Rattle.ring_records.specs.Records.{record_of}
 use Rattle.ring_records.specs.declared.membership.Membership.{Membership}
 use Rattle.ring_records.specs.declared.timed_end.TimedEnd.{TimedEnd}
@@ -64,13 +64,13 @@ state_number Operational = 3
 state_number Stopped = 4
 
 -- The byte of a flag.
-abbrev pub flag : Bool → ℕ
-flag true = 1
-flag false = 0
+abbrev pub flag_byte_of : Bool → ℕ
+flag_byte_of true = 1
+flag_byte_of false = 0
 
 -- The members of a ring, a set in two bytes, and whether they are primary.
 abbrev pub membership_bytes : Membership → List ℕ
-membership_bytes m = big_bytes 2 m.members ++ flag m.is_primary ∷ []
+membership_bytes m = big_bytes 2 m.members ++ flag_byte_of m.is_primary ∷ []
 
 -- The same, or nothing if they are not given.
 abbrev pub membership_text : Option Membership → List ℕ
@@ -109,7 +109,7 @@ token_outcome_number Ignored = 2
 
 -- Whether the token that was taken brought anything, and the earliest time at which a timeout is due.
 abbrev pub timed_end_bytes : TimedEnd → List ℕ
-timed_end_bytes t = flag t.has_brought ∷ big_bytes 8 t.next_time
+timed_end_bytes t = flag_byte_of t.has_progressed ∷ big_bytes 8 t.next_time
 
 -- The same, or nothing for a node without a clock.
 abbrev pub timed_end_text : Option TimedEnd → List ℕ

@@ -3,10 +3,10 @@
 -- Formats: Records
 use Rattle.std.specs.Prelude.{◌≡◌, ℕ, ◌≤◌, List, [], ◌∷◌, length, drop}
 use Rattle.byteorder.specs.Endian.{big_number}
-use Rattle.ring_base.specs.declared.kind.Kind.{Kind}
-use Rattle.ring_base.specs.declared.kind.Kind.TheVariants.{Retransmit, Join, Consensus, Loss}
-use Rattle.ring_records.specs.declared.request.RecordRequest.{RecordRequest}
-use Rattle.ring_records.specs.declared.request.RecordRequest.TheVariants.{Frame, Timeout, Call, Stop, Status, Counts, Time}
+use Rattle.ring_base.specs.declared.timeout_kind.Kind.{Kind}
+use Rattle.ring_base.specs.declared.timeout_kind.Kind.TheVariants.{Retransmit, Join, Consensus, Loss}
+use Rattle.ring_records.specs.declared.record_requests.RecordRequest.{RecordRequest}
+use Rattle.ring_records.specs.declared.record_requests.RecordRequest.TheVariants.{Frame, Timeout, Call, Stop, Status, Counts, Time}
 
 -- The number of a timeout.
 abbrev pub kind_number : Kind → ℕ

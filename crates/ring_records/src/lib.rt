@@ -11,7 +11,7 @@ mod kinds;
 mod membership;
 mod node_records;
 mod reading;
-mod request;
+mod record_requests;
 mod timed_end;
 mod token_outcome;
 mod writing;
@@ -23,6 +23,6 @@ pub use node_records::{
     write_restored, write_status_record, write_ticket,
 };
 pub use reading::{MAX_RECORD_BYTES, read_record};
-pub use request::{RecordRequest, operation_in, record_request};
+pub use record_requests::{RecordRequest, operation_in, record_request};
 pub use timed_end::TimedEnd;
 pub use token_outcome::TokenOutcome;

@@ -4,7 +4,7 @@
 //! Formats: Records
 
 ghost use Rattle.std.specs.Prelude.{◌≡◌};
-ghost use Rattle.ring_records.specs.NodeRecords.{flag, membership_bytes};
+ghost use Rattle.ring_records.specs.NodeRecords.{flag_byte_of, membership_bytes};
 
 use byteorder::{BigEndian, ByteOrder};
 use ring_base::ProcSet;
@@ -24,7 +24,7 @@ impl Membership {
     /// 0.
     ///
     /// Formats: Records
-    pub(crate) fn bytes(self) -> [u8; 3]
+    pub(crate) fn encode_membership(self) -> [u8; 3]
         ensures { result ≡ membership_bytes self }
     {
         let mut bytes = [0; 3];
@@ -36,7 +36,7 @@ impl Membership {
 
 /// Returns 1 if the flag is set, otherwise 0.
 pub(crate) fn flag_byte(is_set: bool) -> u8
-    ensures { result ≡ flag is_set }
+    ensures { result ≡ flag_byte_of is_set }
 {
     if is_set { 1 } else { 0 }
 }

@@ -152,19 +152,19 @@ pub fn write_status_record<W: Write>(
 ) -> io::Result<()>
     ensures { OnOk result (Appends (W.contents out.old) (W.contents out.new) (status_record state ring committed log trimmed members)) }
 {
-    let bytes = bytes_of_status(state, ring, committed, log, trimmed);
+    let bytes = encode_status(state, ring, committed, log, trimmed);
     match members {
-        Some(members) => write_record(out, kinds::STATUS, &bytes, &members.bytes()),
+        Some(members) => write_record(out, kinds::STATUS, &bytes, &members.encode_membership()),
         None => write_record(out, kinds::STATUS, &bytes, &[]),
     }
 }
 
 /// Encodes a node's status, without the members of its ring.
-fn bytes_of_status(state: State, ring: RingId, committed: u64, log: u64, trimmed: u64) -> [u8; 34]
+fn encode_status(state: State, ring: RingId, committed: u64, log: u64, trimmed: u64) -> [u8; 34]
     ensures { result ≡ status_bytes state ring committed log trimmed }
 {
     let mut bytes = [0; 34];
-    bytes[0] = number_of(state);
+    bytes[0] = state_byte(state);
     BigEndian::write_u64(&mut bytes[1..9], ring.seq);
     bytes[9] = ring.rep.number();
     BigEndian::write_u64(&mut bytes[10..18], committed);
@@ -198,7 +198,7 @@ pub fn write_members<W: Write>(ring: RingId, members: Membership, out: &mut W) -
 {
     let mut bytes = [ring.rep.number(); 9];
     BigEndian::write_u64(&mut bytes[..8], ring.seq);
-    write_record(out, kinds::MEMBERS, &bytes, &members.bytes())
+    write_record(out, kinds::MEMBERS, &bytes, &members.encode_membership())
 }
 
 /// Writes a record `E`, the last one that an input produces: the node's state and the outcome of a token, in 1 byte
@@ -218,14 +218,14 @@ pub fn write_end<W: Write>(
 ) -> io::Result<()>
     ensures { OnOk result (Appends (W.contents out.old) (W.contents out.new) (end_record state token timed)) }
 {
-    let bytes = [number_of(state), token.number()];
+    let bytes = [state_byte(state), token.outcome_byte()];
     match timed {
-        Some(timed) => write_record(out, kinds::END, &bytes, &timed.bytes()),
+        Some(timed) => write_record(out, kinds::END, &bytes, &timed.encode_timed_end()),
         None => write_record(out, kinds::END, &bytes, &[]),
     }
 }
 
-fn number_of(state: State) -> u8
+fn state_byte(state: State) -> u8
     ensures { result ≡ state_number state }
 {
     match state {

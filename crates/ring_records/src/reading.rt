@@ -36,7 +36,7 @@ pub fn read_record<A: Allocator, R: Read>(
     ensures refused { IfErr result (λ fault. (fault ≡ Memory) ⊎ (fault ≡ BadFrame)) }
     ensures part { OnErr result (TakesUnfinished (R.remaining input.old) (R.remaining input.new)) }
 {
-    let Some(kind) = next_byte(input)? else {
+    let Some(kind) = read_byte(input)? else {
         return Ok(None);
     };
     let length = read_length(input)?;
@@ -52,10 +52,10 @@ fn read_length<R: Read>(input: &mut R) -> Result<u16, Fault>
     ensures refused { IfErr result (λ fault. fault ≡ BadFrame) }
     ensures part { OnErr result (TakesFewer 2 (R.remaining input.old) (R.remaining input.new)) }
 {
-    let Some(high) = next_byte(input)? else {
+    let Some(high) = read_byte(input)? else {
         return Err(Fault::BadFrame);
     };
-    let Some(low) = next_byte(input)? else {
+    let Some(low) = read_byte(input)? else {
         return Err(Fault::BadFrame);
     };
     Ok(256 * u16::from(high) + u16::from(low))
@@ -76,7 +76,7 @@ fn read_bytes<A: Allocator, R: Read>(
 {
     bytes.clear();
     bytes.resize(usize::from(count), 0)?;
-    if fill(input, bytes.as_mut_slice()) {
+    if fill_from_input(input, bytes.as_mut_slice()) {
         Ok(())
     } else {
         Err(Fault::BadFrame)
@@ -86,13 +86,13 @@ fn read_bytes<A: Allocator, R: Read>(
 /// Fills `room` from the input.
 ///
 /// Returns false if the input fails or ends before that.
-fn fill<R: Read>(input: &mut R, room: &mut [u8]) -> bool
+fn fill_from_input<R: Read>(input: &mut R, room: &mut [u8]) -> bool
     ensures whole { result ≡ true → Consumes (R.remaining input.old) (R.remaining input.new) room.new }
     ensures part { result ≡ false → TakesFewer (length room.new) (R.remaining input.old) (R.remaining input.new) }
 {
     let mut filled = 0;
     while filled < room.len() {
-        match read_some(input, &mut room[filled..]) {
+        match read_retrying(input, &mut room[filled..]) {
             Ok(0) => return false,
             Ok(count) => filled += count,
             Err(_) => return false,
@@ -104,13 +104,13 @@ fn fill<R: Read>(input: &mut R, room: &mut [u8]) -> bool
 /// Reads one byte, or returns `None` at the end of the input.
 ///
 /// Errors: `BadFrame` if the input fails.
-fn next_byte<R: Read>(input: &mut R) -> Result<Option<u8>, Fault>
+fn read_byte<R: Read>(input: &mut R) -> Result<Option<u8>, Fault>
     ensures next { IfOk result (λ byte. IsNextByte (R.remaining input.old) (R.remaining input.new) byte) }
     ensures refused { IfErr result (λ fault. fault ≡ BadFrame) }
     ensures kept { OnErr result (Keeps (R.remaining input.old) (R.remaining input.new)) }
 {
     let mut byte = [0];
-    match read_some(input, &mut byte) {
+    match read_retrying(input, &mut byte) {
         Ok(0) => Ok(None),
         Ok(_) => Ok(Some(byte[0])),
         Err(fault) => Err(fault),
@@ -122,7 +122,7 @@ fn next_byte<R: Read>(input: &mut R) -> Result<Option<u8>, Fault>
 /// The number is 0 only at the end of the input or if `room` is empty. An interrupted read is tried again.
 ///
 /// Errors: `BadFrame` if the input fails.
-fn read_some<R: Read>(input: &mut R, room: &mut [u8]) -> Result<usize, Fault>
+fn read_retrying<R: Read>(input: &mut R, room: &mut [u8]) -> Result<usize, Fault>
     ensures bound { ReadsAtMost result room.new }
     ensures taken { IfOk result (λ count. Consumes (R.remaining input.old) (R.remaining input.new) (take count room.new)) }
     ensures end { IfOk result (λ count. count ≡ 0 → 0 < length room.old → IsAtEnd (R.remaining input.new)) }

@@ -16,7 +16,7 @@ use byteorder::{BigEndian, ByteOrder};
 #[derive(Clone, Copy, Debug, PartialEq, Eq)]
 pub struct TimedEnd {
     /// Whether the input was a token that the node took and that brought anything, so that the node isn't idle.
-    pub has_brought: bool,
+    pub has_progressed: bool,
     /// The earliest time at which a timeout is due, in milliseconds.
     ///
     /// It saturates at `u64::MAX`.
@@ -28,10 +28,10 @@ impl TimedEnd {
     /// big-endian.
     ///
     /// Formats: Records
-    pub(crate) fn bytes(self) -> [u8; 9]
+    pub(crate) fn encode_timed_end(self) -> [u8; 9]
         ensures { result ≡ timed_end_bytes self }
     {
-        let mut bytes = [flag_byte(self.has_brought); 9];
+        let mut bytes = [flag_byte(self.has_progressed); 9];
         BigEndian::write_u64(&mut bytes[1..], self.next_time);
         bytes
     }

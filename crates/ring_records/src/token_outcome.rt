@@ -43,7 +43,7 @@ impl TokenOutcome {
     /// Returns the byte that encodes the outcome in a record: 0 for `NoToken`, 1 for `Taken`, 2 for `Ignored`.
     ///
     /// Formats: Records
-    pub(crate) fn number(self) -> u8
+    pub(crate) fn outcome_byte(self) -> u8
         ensures { result ≡ token_outcome_number self }
     {
         match self {

@@ -15,7 +15,7 @@ use Rattle.ring_commit.specs.Reports.{is_sound}
 use Rattle.ring_window.specs.Payloads.{is_user}
 use Rattle.ring_window.proofs.Finding.{holds-found}
 use Rattle.ring_recover.specs.Plans.{Plan, plan_of, plan_if_sound, plan_from, safe, gap, known_above_safe}
-use Rattle.ring_recover.specs.Deliveries.{is_complete, is_from_transitional_member, transitional_part, past_gap_part, finish, rests, SameText}
+use Rattle.ring_recover.specs.Deliveries.{is_complete, is_from_transitional_member, transitional_part, past_gap_part, finish, rest_messages, SameText}
 
 -- One plan
 
@@ -90,7 +90,7 @@ pub same_parts : {A : Type 0} → (p : Plan) (a b : List (Message A)) → SameTe
 same_parts p a b same h k = rw (h, k, past_gap_same p a b same h k) refl
 
 pub same_rests : {A : Type 0} → (p : Plan) (a b : List (Message A)) → SameText p.old a b → is_complete p a ≡ true
-    → is_complete p b ≡ true → rests p a ≡ rests p b
+    → is_complete p b ≡ true → rest_messages p a ≡ rest_messages p b
 same_rests {A} p a b same h k =
     let ks = both_known p a b same h k in
     let later = each-filter (Both p.old a b) (is_from_transitional_member p a) _ (each-filter (Both p.old a b) (nat_lt (gap p)) (known_above_safe p) ks) in

@@ -8,7 +8,7 @@ use Rattle.ring_base.specs.Numbers.{window_size, numbers_from}
 use Rattle.ring_commit.specs.Tokens.{CommitEntry}
 use Rattle.ring_window.specs.Messages.{Message}
 use Rattle.ring_window.specs.Bits.{is_set, IsFirstClear}
-use Rattle.ring_recover.specs.Chosen.{chosen}
+use Rattle.ring_recover.specs.Chosen.{numbers_of_bits}
 use Rattle.ring_recover.specs.Plans.{Plan, safe, low, least, least_mark, gap, is_reported, is_known}
 use Rattle.ring_recover.specs.Deliveries.{is_from_transitional_member, regular_part, transitional_part, past_gap_part}
 use Rattle.ring_recover.proofs.NumbersPassing.{chosen_by, both_on, first_of_row}
@@ -123,13 +123,13 @@ module _ (p : Plan) (known : List ℕ) (k : ℕ) (sound : safe p ≤ low p) (is 
       ])
 
   -- the part below the gap and the part past it
-  pub transitional_is : (words : List ℕ) → ((j : ℕ) → j < 256 → is_set words j ≡ (nat_lt j k && is_set known j)) → chosen (safe p) words ≡ transitional_part p
+  pub transitional_is : (words : List ℕ) → ((j : ℕ) → j < 256 → is_set words j ≡ (nat_lt j k && is_set known j)) → numbers_of_bits (safe p) words ≡ transitional_part p
   transitional_is words h =
       chosen_by (λ n. nat_lt n (gap p) && is_known p n) (safe p) words (λ j l. h j l ∙ rw (gap_bit j l, is j l) refl)
       ∙ sym (both_on (λ n. nat_lt n (gap p)) (is_known p) (numbers_from (safe p + 1) window_size))
 
   pub past_gap_is : {A : Type 0} (held : List (Message A)) (words : List ℕ) → ((j : ℕ) → j < 256
-      → is_set words j ≡ (nat_lt k j && (is_set known j && is_from_transitional_member p held (safe p + 1 + j)))) → chosen (safe p) words ≡ past_gap_part p held
+      → is_set words j ≡ (nat_lt k j && (is_set known j && is_from_transitional_member p held (safe p + 1 + j)))) → numbers_of_bits (safe p) words ≡ past_gap_part p held
   past_gap_is held words h =
       chosen_by (λ n. is_from_transitional_member p held n && (nat_lt (gap p) n && is_known p n)) (safe p) words (λ j l. h j l
       ∙ rw (past_gap_bit j l, is j l) (turned (nat_lt (gap p) (safe p + 1 + j)) (is_known p (safe p + 1 + j)) (is_from_transitional_member p held (safe p + 1 + j))))
@@ -138,7 +138,7 @@ module _ (p : Plan) (known : List ℕ) (k : ℕ) (sound : safe p ≤ low p) (is 
 
 -- the part up to the greatest safe mark
 pub regular_is : (p : Plan) (words : List ℕ) → ((j : ℕ) → j < 256 → is_set words j ≡ nat_lt j (safe p - least_mark p))
-    → chosen (least_mark p) words ≡ regular_part p
+    → numbers_of_bits (least_mark p) words ≡ regular_part p
 regular_is p words h =
     let first = least_mark p + 1 in
     let count = safe p - least_mark p in

@@ -12,10 +12,10 @@ use Rattle.ring_window.specs.Payloads.{is_user}
 use Rattle.ring_window.specs.Messages.{Message}
 use Rattle.ring_window.specs.Bits.{is_set}
 use Rattle.ring_window.specs.Held.{is_numbered, found, highest}
-use Rattle.ring_window.specs.Windows.{WindowHistory, kept}
+use Rattle.ring_window.specs.Windows.{WindowHistory, message_above_mark}
 use Rattle.ring_recover.specs.Plans.{low}
 use Rattle.ring_recover.specs.Wrapping.{is_wrapped}
-use Rattle.ring_recover.specs.RecoveryState.{RecoveryState, first_number, next_to_wrap, is_users, IsPlanKept}
+use Rattle.ring_recover.specs.RecoveryState.{RecoveryState, first_number, next_to_wrap, is_user_message, IsPlanKept}
 use Rattle.ring_recover.proofs.MessagesInFront.{kept_found}
 
 -- the message found under a number has that number
@@ -34,7 +34,7 @@ left_of r xs = filter (λ (x : Message _). is_user x.payload) (filter (λ (x : M
 
 -- a number is wrapped where a user message of it is held, and no message wraps it yet
 abbrev pub is_left : {A : Type 0} → RecoveryState A → List (Message A) → ℕ → Bool
-is_left r held n = is_users (found held r.plan.old n) && not (is_wrapped r.seen r.plan.old n)
+is_left r held n = is_user_message (found held r.plan.old n) && not (is_wrapped r.seen r.plan.old n)
 
 -- the messages of consecutive numbers
 abbrev pub row : {A : Type 0} → RecoveryState A → List (Message A) → ℕ → ℕ → List (Message A)
@@ -79,7 +79,7 @@ module _ {A : Type 0} (r : RecoveryState A) where
       ]
 
   module _ (held : List (Message A)) where
-    skip_by : (o : Option (Message A)) (first count : ℕ) → found held r.plan.old first ≡ o → (is_users o && not (is_wrapped r.seen r.plan.old first)) ≡ false
+    skip_by : (o : Option (Message A)) (first count : ℕ) → found held r.plan.old first ≡ o → (is_user_message o && not (is_wrapped r.seen r.plan.old first)) ≡ false
         → left_of r (row r held first (suc count)) ≡ left_of r (row r held (suc first) count)
     skip_by None first count e h = ap (λ (o : Option (Message A)). left_of r (cons_option o (row r held (suc first) count))) e
     skip_by (Some x) first count e h =
@@ -90,7 +90,7 @@ module _ {A : Type 0} (r : RecoveryState A) where
     pub next_skip : (first count : ℕ) → is_left r held first ≡ false → next_from r held first (suc count) ≡ next_from r held (suc first) count
     next_skip first count h = ap first_number (skip_by (found held r.plan.old first) first count refl h)
 
-    hit_by : (o : Option (Message A)) (first count : ℕ) → found held r.plan.old first ≡ o → (is_users o && not (is_wrapped r.seen r.plan.old first)) ≡ true
+    hit_by : (o : Option (Message A)) (first count : ℕ) → found held r.plan.old first ≡ o → (is_user_message o && not (is_wrapped r.seen r.plan.old first)) ≡ true
         → next_from r held first (suc count) ≡ Some first
     hit_by None first count e h = absurd cc
     hit_by (Some x) first count e h =
@@ -126,14 +126,14 @@ module _ {A : Type 0} (r : RecoveryState A) where
 -- whether a number is left to wrap, from the window and the bits
 pub left_here : {A : Type 0} (r : RecoveryState A) (old : RingId) (transitional_members least_one high front : ℕ) (known wrapped : List ℕ) (ended : Bool)
     (w : WindowHistory A) (before : ℕ) (users was : Bool) → IsPlanKept r old transitional_members least_one high front known wrapped ended
-    → w.ring ≡ r.plan.old → w.mark ≤ high → front ≤ before → before < high + 256 → users ≡ is_users (kept w (before + 1)) → was ≡ is_set wrapped (before - high)
+    → w.ring ≡ r.plan.old → w.mark ≤ high → front ≤ before → before < high + 256 → users ≡ is_user_message (message_above_mark w (before + 1)) → was ≡ is_set wrapped (before - high)
     → is_left r w.held (before + 1) ≡ (users && not was)
 left_here r old transitional_members least_one high front known wrapped ended w before users was k ring mark low near u s =
     let sound = k.sound in
     let n : high + 1 + (before - high) ≡ before + 1 = omega arith in
-    let there : kept w (before + 1) ≡ found w.held r.plan.old (before + 1) = kept_found w (before + 1) (omega arith)
+    let there : message_above_mark w (before + 1) ≡ found w.held r.plan.old (before + 1) = kept_found w (before + 1) (omega arith)
     ∙ ap (λ (o : RingId). found w.held o (before + 1)) ring in
-    let user : is_users (found w.held r.plan.old (before + 1)) ≡ users = sym (u ∙ ap is_users there) in
+    let user : is_user_message (found w.held r.plan.old (before + 1)) ≡ users = sym (u ∙ ap is_user_message there) in
     let seen : is_wrapped r.seen r.plan.old (before + 1) ≡ was = sym (s ∙ k.wrapped_is (before - high) (omega arith) ∙ ap (is_wrapped r.seen r.plan.old) n) in
     rw (user, seen) refl
 

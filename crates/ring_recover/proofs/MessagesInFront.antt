@@ -8,14 +8,14 @@ use Rattle.std.proofs.lemmas.List.{append-nil}
 use Rattle.std.proofs.lemmas.List.Elements.{filter_map-append}
 use Rattle.ring_base.specs.Prefixes.{IsListPrefix, prefix_length, prefix_shorter, prefix_whole}
 use Rattle.ring_base.specs.Numbers.{numbers_from}
-use Rattle.ring_base.specs.Passing.{length-numbers_from}
+use Rattle.ring_base.specs.FilteredRanges.{length-numbers_from}
 use Rattle.ring_base.specs.Rings.{same_ring}
 use Rattle.ring_base.specs.declared.ring_id.RingId.{RingId}
 use Rattle.ring_base.proofs.Cases.{or-true}
 use Rattle.ring_base.proofs.ListPlaces.{numbers-append}
 use Rattle.ring_window.specs.Messages.{Message}
 use Rattle.ring_window.specs.Held.{is_numbered, found, holds, front_of}
-use Rattle.ring_window.specs.Windows.{WindowHistory, kept}
+use Rattle.ring_window.specs.Windows.{WindowHistory, message_above_mark}
 use Rattle.ring_window.proofs.HeldFront.{front_is, front_grows}
 use Rattle.ring_window.proofs.Finding.{holds-found}
 use Rattle.ring_recover.specs.Installing.{in_front}
@@ -74,7 +74,7 @@ module _ {A : Type 0} (held : List (Message A)) (ring : RingId) where
       (length xs) l) (omega arith)) (omega arith)
 
 -- the message of a number above its mark that a window still keeps
-pub kept_found : {A : Type 0} (w : WindowHistory A) (n : ℕ) → w.mark < n → kept w n ≡ found w.held w.ring n
+pub kept_found : {A : Type 0} (w : WindowHistory A) (n : ℕ) → w.mark < n → message_above_mark w n ≡ found w.held w.ring n
 kept_found w n l = cond-true (nat_lt w.mark n) (found w.held w.ring n) None (lt-ltb w.mark n l)
 
 -- Once a message of a new number is held, the messages that were in the front are a prefix of those in it now

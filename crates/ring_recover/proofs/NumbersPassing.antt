@@ -8,7 +8,7 @@ use Rattle.ring_base.specs.Numbers.{window_size, numbers_from}
 use Rattle.ring_base.proofs.Cases.{and-true, and-false}
 use Rattle.ring_window.specs.Bits.{is_set}
 use Rattle.ring_window.proofs.WordBits.{clear_past}
-use Rattle.ring_recover.specs.Chosen.{is_chosen, chosen, chosen_from, IsFirstSet}
+use Rattle.ring_recover.specs.Chosen.{is_chosen, numbers_of_bits, chosen_from, IsFirstSet}
 
 -- a number that doesn't pass is left out
 pub passed_over : (p : ℕ → Bool) (first count k : ℕ) → k ≤ count → ((i : ℕ) → i < k → p (first + i) ≡ false)
@@ -52,12 +52,12 @@ chosen_at after j words = (let e : after + 1 + j - (after + 1) ≡ j = omega ari
 
 -- the bits agree with the test
 pub chosen_by : (p : ℕ → Bool) (after : ℕ) (words : List ℕ) → ((j : ℕ) → j < 256 → is_set words j ≡ p (after + 1 + j))
-    → chosen after words ≡ filter p (numbers_from (after + 1) window_size)
+    → numbers_of_bits after words ≡ filter p (numbers_from (after + 1) window_size)
 chosen_by p after words h = same_on (is_chosen after words) p (after + 1) window_size (λ i l. chosen_at after i words ∙ h i l)
 
 -- ---- one after another
 
-pub chosen_all : (after : ℕ) (words : List ℕ) → chosen_from after words 0 ≡ chosen after words
+pub chosen_all : (after : ℕ) (words : List ℕ) → chosen_from after words 0 ≡ numbers_of_bits after words
 chosen_all after words = (let e : after + 1 + 0 ≡ after + 1 = omega arith in ap (λ n. filter (is_chosen after words) (numbers_from n window_size)) e)
 
 skipped : (after : ℕ) (words : List ℕ) (from k : ℕ) → IsFirstSet words from k → chosen_from after words from ≡ chosen_from after words k
@@ -90,7 +90,7 @@ chosen_next after words from k f some =
 -- ---- all of them pass a test, or one doesn't
 
 pub chosen_pass : (p : ℕ → Bool) (after : ℕ) (words : List ℕ) → ((j : ℕ) → j < 256 → is_set words j ≡ true → p (after + 1 + j) ≡ true)
-    → list_all p (chosen after words) ≡ true
+    → list_all p (numbers_of_bits after words) ≡ true
 chosen_pass p after words h = row p (is_chosen after words) (after + 1) window_size (λ i l c. h i l (sym (chosen_at after i words) ∙ c))
   where
     row : (p q : ℕ → Bool) (first count : ℕ) → ((i : ℕ) → i < count → q (first + i) ≡ true → p (first + i) ≡ true)
@@ -105,7 +105,7 @@ chosen_pass p after words h = row p (is_chosen after words) (after + 1) window_s
         (λ c. and_from (p first) _ (ap p z ∙ h 0 (omega arith) (sym (ap q z) ∙ c)) rest)
         (λ c. rest)
 
-pub chosen_each : (p : ℕ → Bool) (after : ℕ) (words : List ℕ) → list_all p (chosen after words) ≡ true → (j : ℕ) → j < 256 → is_set words j ≡ true
+pub chosen_each : (p : ℕ → Bool) (after : ℕ) (words : List ℕ) → list_all p (numbers_of_bits after words) ≡ true → (j : ℕ) → j < 256 → is_set words j ≡ true
     → p (after + 1 + j) ≡ true
 chosen_each p after words h j l c = row p (is_chosen after words) (after + 1) window_size h j l (chosen_at after j words ∙ c)
   where

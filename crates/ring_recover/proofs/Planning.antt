@@ -13,14 +13,14 @@ use Rattle.ring_commit.specs.Tokens.{CommitEntry}
 use Rattle.ring_window.specs.Messages.{Message}
 use Rattle.ring_window.specs.Bits.{is_set}
 use Rattle.ring_window.specs.Held.{found, holds, highest, front_of}
-use Rattle.ring_window.specs.Windows.{WindowHistory, kept}
+use Rattle.ring_window.specs.Windows.{WindowHistory, message_above_mark}
 use Rattle.ring_window.proofs.HeldFront.{highest_covers}
 use Rattle.ring_window.proofs.Windows.{found_none}
 use Rattle.ring_commit.specs.Reports.{safe_of, none_behind, is_sound}
-use Rattle.ring_recover.specs.Chosen.{chosen}
+use Rattle.ring_recover.specs.Chosen.{numbers_of_bits}
 use Rattle.ring_recover.specs.Plans.{Plan, plan_of, plan_if_sound, plan_from, least, low, safe, is_known, known_above_safe}
 use Rattle.ring_recover.specs.Wrapping.{is_wrap_of, is_wrapped}
-use Rattle.ring_recover.specs.RecoveryState.{RecoveryState, with_seen, old_of, IsPlanKept, is_from}
+use Rattle.ring_recover.specs.RecoveryState.{RecoveryState, with_seen, old_ring_of, IsPlanKept, is_sent_by_any}
 use Rattle.ring_recover.specs.Deliveries.{is_complete, is_from_transitional_member_if_there, is_from_transitional_member}
 use Rattle.ring_recover.proofs.NumbersPassing.{chosen_by, chosen_each}
 
@@ -33,7 +33,7 @@ sound_is k None old e = absurd (let q : ⊥ = cc in q)
 sound_is k (Some own) old e = (let same : own.old ≡ old = cc in ap
     (λ (r : RingId). if is_sound r k.entries then Some (plan_of r k.members k.entries) else None) same)
 
-pub planned : (me : ℕ) (k : CommitToken) (old : RingId) → old_of me k ≡ Some old
+pub planned : (me : ℕ) (k : CommitToken) (old : RingId) → old_ring_of me k ≡ Some old
     → plan_from me k ≡ (if is_sound old k.entries then Some (plan_of old k.members k.entries) else None)
 planned me k old h =
     let o = slice_get k.entries (position_of k.members me) in
@@ -92,14 +92,14 @@ module _ {A : Type 0} (r : RecoveryState A) (x : Message A) (old : RingId) (tran
 -- the known numbers above the greatest safe mark
 pub kept_known : {A : Type 0} (r : RecoveryState A) (old : RingId) (transitional_members least_one high front : ℕ) (known wrapped : List ℕ) (ended : Bool)
     → IsPlanKept r old transitional_members least_one high front known wrapped ended
-    → chosen high known ≡ known_above_safe r.plan
+    → numbers_of_bits high known ≡ known_above_safe r.plan
 kept_known r old transitional_members least_one high front known wrapped ended k =
-    ap (λ n. chosen n known) k.safe_is ∙ chosen_by (is_known r.plan) (safe r.plan) known (λ j l. k.known_is j l
+    ap (λ n. numbers_of_bits n known) k.safe_is ∙ chosen_by (is_known r.plan) (safe r.plan) known (λ j l. k.known_is j l
     ∙ ap (λ n. is_known r.plan (n + 1 + j)) k.safe_is)
 
 -- The messages in the old ring's window
 
-sent_by : {A : Type 0} (p : Plan) (o : Option (Message A)) → is_from p.transitional_members o ≡ is_from_transitional_member_if_there p o
+sent_by : {A : Type 0} (p : Plan) (o : Option (Message A)) → is_sent_by_any p.transitional_members o ≡ is_from_transitional_member_if_there p o
 sent_by p None = refl
 sent_by p (Some x) = refl
 
@@ -111,18 +111,18 @@ pub held_beyond : {A : Type 0} (held : List (Message A)) (ring : RingId) (after 
 held_beyond held ring after offset l = sym (not_held held ring (after + 1 + offset) (omega arith))
 
 pub from_beyond : {A : Type 0} (senders : ℕ) (w : WindowHistory A) (after offset : ℕ) → highest w.held w.ring ≤ after + offset
-    → false ≡ is_from senders (kept w (after + 1 + offset))
+    → false ≡ is_sent_by_any senders (message_above_mark w (after + 1 + offset))
 from_beyond senders w after offset l =
     let n = after + 1 + offset in
     let none = found_none w.held w.ring n (not_held w.held w.ring n (omega arith)) in
     elim (cases_Bool (nat_lt w.mark n)) [
-      | inl e ↦ sym (ap (is_from senders) (cond-true (nat_lt w.mark n) (found w.held w.ring n) None e ∙ none))
-      | inr e ↦ sym (ap (is_from senders) (cond-false (nat_lt w.mark n) (found w.held w.ring n) None e))
+      | inl e ↦ sym (ap (is_sent_by_any senders) (cond-true (nat_lt w.mark n) (found w.held w.ring n) None e ∙ none))
+      | inr e ↦ sym (ap (is_sent_by_any senders) (cond-false (nat_lt w.mark n) (found w.held w.ring n) None e))
     ]
 
 pub not_all : (p : ℕ → Bool) (after : ℕ) (words : List ℕ) (j : ℕ) → j < 256 → is_set words j ≡ true → p (after + 1 + j) ≡ false
-    → false ≡ list_all p (chosen after words)
-not_all p after words j l s f = elim (cases_Bool (list_all p (chosen after words))) [
+    → false ≡ list_all p (numbers_of_bits after words)
+not_all p after words j l s f = elim (cases_Bool (list_all p (numbers_of_bits after words))) [
   | inl t ↦ absurd (true≢false (sym
       (chosen_each p after words t j l s) ∙ f))
   | inr t ↦ sym t
@@ -137,10 +137,10 @@ module _ {A : Type 0} (r : RecoveryState A) (old : RingId) (transitional_members
   kept_sound = (let a = k.sound in let b = k.safe_is in let c = k.low_is in omega arith)
 
   module _ (w : WindowHistory A) (ring : w.ring ≡ r.plan.old) where
-    pub complete_front : high ≤ front_of w.held w.ring → list_all (holds w.held w.ring) (chosen high known) ≡ is_complete r.plan w.held
+    pub complete_front : high ≤ front_of w.held w.ring → list_all (holds w.held w.ring) (numbers_of_bits high known) ≡ is_complete r.plan w.held
     complete_front l =
-        let all : list_all (holds w.held w.ring) (chosen high known) ≡ list_all (holds w.held r.plan.old) (known_above_safe r.plan) =
-        ap (λ (o : RingId). list_all (holds w.held o) (chosen high known)) ring
+        let all : list_all (holds w.held w.ring) (numbers_of_bits high known) ≡ list_all (holds w.held r.plan.old) (known_above_safe r.plan) =
+        ap (λ (o : RingId). list_all (holds w.held o) (numbers_of_bits high known)) ring
         ∙ ap (list_all (holds w.held r.plan.old)) (kept_known r old transitional_members least_one high front known wrapped ended k) in
         let reached : nat_le (safe r.plan) (front_of w.held r.plan.old) ≡ true = le-leb (safe r.plan) (front_of w.held r.plan.old) (let a = ap
         (front_of w.held) ring in let b = k.safe_is in omega arith) in
@@ -162,9 +162,9 @@ module _ {A : Type 0} (r : RecoveryState A) (old : RingId) (transitional_members
         lt-ltb j (highest w.held w.ring - high) (let a = ap (highest w.held) ring in omega arith)
 
     -- a message past the mark was sent by a transitional member where one of these sent it
-    pub from_mate : w.mark ≤ high → (j : ℕ) → is_from transitional_members (kept w (high + 1 + j)) ≡ is_from_transitional_member r.plan w.held (high + 1 + j)
+    pub from_mate : w.mark ≤ high → (j : ℕ) → is_sent_by_any transitional_members (message_above_mark w (high + 1 + j)) ≡ is_from_transitional_member r.plan w.held (high + 1 + j)
     from_mate m j =
-        ap (is_from transitional_members) (cond-true (nat_lt w.mark (high + 1 + j)) (found w.held w.ring (high + 1 + j)) None (lt-ltb w.mark (high + 1 + j)
+        ap (is_sent_by_any transitional_members) (cond-true (nat_lt w.mark (high + 1 + j)) (found w.held w.ring (high + 1 + j)) None (lt-ltb w.mark (high + 1 + j)
         (omega arith)) ∙ ap (λ (o : RingId). found w.held o (high + 1 + j)) ring)
-        ∙ ap (λ (n : ℕ). is_from n (found w.held r.plan.old (high + 1 + j))) k.transitional_members_is
+        ∙ ap (λ (n : ℕ). is_sent_by_any n (found w.held r.plan.old (high + 1 + j))) k.transitional_members_is
         ∙ sent_by r.plan (found w.held r.plan.old (high + 1 + j))

@@ -16,7 +16,7 @@ use Rattle.ring_window.specs.Messages.{Message}
 use Rattle.ring_window.specs.Held.{is_numbered, found, of_ring, highest}
 use Rattle.ring_recover.specs.Plans.{Plan, low}
 use Rattle.ring_recover.specs.Wrapping.{is_wrap_of, is_wrapped, wrap, wrap_content, above_low, has_own_end, wraps_and_end}
-use Rattle.ring_recover.specs.RecoveryState.{RecoveryState, with_seen, first_number, next_to_wrap, is_users}
+use Rattle.ring_recover.specs.RecoveryState.{RecoveryState, with_seen, first_number, next_to_wrap, is_user_message}
 use Rattle.ring_recover.proofs.HandedNext.{found_number, is_left, row, next_from, next_hit, next_skip}
 
 -- a message of the new ring that wraps one of the old
@@ -115,7 +115,7 @@ module _ {A : Type 0} (r : RecoveryState A) (held : List (Message A)) (m : Messa
       (λ e. omega arith) (same_past (suc first) count (omega arith))
 
   here_by : (o : Option (Message A)) (rest : List (Message A)) → found held r.plan.old n ≡ o
-      → (is_users o && not (is_wrapped r.seen r.plan.old n)) ≡ true → sends_of (with_seen r m) rest ≡ sends_of r rest
+      → (is_user_message o && not (is_wrapped r.seen r.plan.old n)) ≡ true → sends_of (with_seen r m) rest ≡ sends_of r rest
       → IsHanded r m held (cons_option o rest) n
   here_by None rest e h s = absurd cc
   here_by (Some x) rest e h s =
@@ -136,7 +136,7 @@ module _ {A : Type 0} (r : RecoveryState A) (held : List (Message A)) (m : Messa
       }
 
   later_by : (o : Option (Message A)) (first : ℕ) (rest : List (Message A)) → found held r.plan.old first ≡ o
-      → (is_users o && not (is_wrapped r.seen r.plan.old first)) ≡ false → first ≢ n
+      → (is_user_message o && not (is_wrapped r.seen r.plan.old first)) ≡ false → first ≢ n
       → IsHanded r m held rest n → IsHanded r m held (cons_option o rest) n
   later_by None first rest e h other i = i
   later_by (Some x) first rest e h other i =
@@ -177,7 +177,7 @@ module _ {A : Type 0} (r : RecoveryState A) (held : List (Message A)) (m : Messa
 
 module _ {A : Type 0} (r : RecoveryState A) (held : List (Message A)) where
   none_by : (o : Option (Message A)) (first : ℕ) (rest : List (Message A)) → found held r.plan.old first ≡ o
-      → (is_users o && not (is_wrapped r.seen r.plan.old first)) ≡ false
+      → (is_user_message o && not (is_wrapped r.seen r.plan.old first)) ≡ false
       → sends_of r rest ≡ [] → sends_of r (cons_option o rest) ≡ []
   none_by None first rest e h n = n
   none_by (Some x) first rest e h n = not_sent r x rest (ap

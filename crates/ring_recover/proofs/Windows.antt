@@ -3,4 +3,4 @@ pub use Rattle.ring_window.proofs.HeldFront.{front_is, highest_covers, front_onl
 pub use Rattle.ring_window.proofs.Finding.{holds-found, found-holds, holds-more}
 pub use Rattle.ring_window.proofs.Bits.{held_bit}
 pub use Rattle.ring_window.proofs.OfRing.{front_of_ring, held_bits_of_ring}
-pub use Rattle.ring_window.proofs.Missing.{length-bytes_of}
+pub use Rattle.ring_window.proofs.Missing.{length-bytes_from_bits}

@@ -12,8 +12,8 @@ abbrev pub chosen_from : ℕ → List ℕ → ℕ → List ℕ
 chosen_from after words offset = filter (is_chosen after words) (numbers_from (after + 1 + offset) (window_size - offset))
 
 -- The numbers of the set, ascending.
-abbrev pub chosen : ℕ → List ℕ → List ℕ
-chosen after words = filter (is_chosen after words) (numbers_from (after + 1) window_size)
+abbrev pub numbers_of_bits : ℕ → List ℕ → List ℕ
+numbers_of_bits after words = filter (is_chosen after words) (numbers_from (after + 1) window_size)
 
 -- Each number of the set fits a word of 64 bits.
 abbrev pub AreWords : ℕ → List ℕ → Type 0

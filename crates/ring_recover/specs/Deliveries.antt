@@ -49,5 +49,5 @@ abbrev pub finish : {A : Type 0} → Plan → List (Message A) → Option Delive
 finish p held = if is_complete p held then Some (delivery p held) else None
 
 -- The messages that the transitional configuration delivers: the user messages of the last two parts.
-abbrev pub rests : {A : Type 0} → Plan → List (Message A) → List (Message A)
-rests p held = filter (λ (x : Message _). is_user x.payload) (filter_map (found held p.old) (transitional_part p ++ past_gap_part p held))
+abbrev pub rest_messages : {A : Type 0} → Plan → List (Message A) → List (Message A)
+rest_messages p held = filter (λ (x : Message _). is_user x.payload) (filter_map (found held p.old) (transitional_part p ++ past_gap_part p held))

@@ -37,8 +37,8 @@ abbrev pub next_to_wrap : {A : Type 0} → RecoveryState A → List (Message A) 
 next_to_wrap r held = first_number (filter (λ (x : Message _). is_user x.payload) (left_to_wrap r.plan r.seen held))
 
 -- The old ring of a member, if each member has an entry.
-abbrev pub old_of : ℕ → CommitToken → Option RingId
-old_of me k =
+abbrev pub old_ring_of : ℕ → CommitToken → Option RingId
+old_ring_of me k =
     if has k.members me && nat_le (size k.members) (length k.entries)
     then option_map (λ (e : CommitEntry). e.old) (slice_get k.entries (position_of k.members me))
     else None
@@ -60,11 +60,11 @@ pub record IsPlanKept {A : Type 0} (r : RecoveryState A) (old : RingId) (transit
 -- What the code reads from the old ring's window
 
 -- There is a message, and it is a user message.
-abbrev pub is_users : {A : Type 0} → Option (Message A) → Bool
-is_users None = false
-is_users (Some x) = is_user x.payload
+abbrev pub is_user_message : {A : Type 0} → Option (Message A) → Bool
+is_user_message None = false
+is_user_message (Some x) = is_user x.payload
 
 -- There is a message, and one of `senders` sent it.
-abbrev pub is_from : {A : Type 0} → ℕ → Option (Message A) → Bool
-is_from senders None = false
-is_from senders (Some x) = has senders x.sender
+abbrev pub is_sent_by_any : {A : Type 0} → ℕ → Option (Message A) → Bool
+is_sent_by_any senders None = false
+is_sent_by_any senders (Some x) = has senders x.sender

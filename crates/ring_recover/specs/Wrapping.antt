@@ -5,7 +5,7 @@ use Rattle.std.specs.List.{list_any}
 use Rattle.ring_base.specs.Rings.{same_ring}
 use Rattle.ring_base.specs.Numbers.{numbers_from}
 use Rattle.ring_base.specs.declared.ring_id.RingId.{RingId}
-use Rattle.ring_window.specs.Payloads.{Content, Payload, Wrapped as WrappedMessage, is_end, payload_of, content_of}
+use Rattle.ring_window.specs.Payloads.{WrappedPayload, Payload, Wrapped as WrappedMessage, is_end, payload_of, content_of}
 use Rattle.ring_window.specs.PayloadVariants.{Call, Wrapped, End, Head, Part, Pack, Snap}
 use Rattle.ring_window.specs.Messages.{Message}
 use Rattle.ring_window.specs.Held.{found, of_ring, highest, is_new}
@@ -26,7 +26,7 @@ abbrev pub is_wrapped : {A : Type 0} → List (Message A) → RingId → ℕ →
 is_wrapped fresh old n = list_any (λ (x : Message _). is_wrap_of old n x.payload) fresh
 
 -- A message of the old ring as a payload of the new one, if it has user content.
-abbrev pub wrap_content : {A : Type 0} → Message A → Option (Content A) → Option (Payload A)
+abbrev pub wrap_content : {A : Type 0} → Message A → Option (WrappedPayload A) → Option (Payload A)
 wrap_content x None = None
 wrap_content x (Some content) = Some (Wrapped (record { ring = x.ring; number = x.number; sender = x.sender; payload = content }))
 

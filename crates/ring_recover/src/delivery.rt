@@ -2,7 +2,7 @@
 //!
 //! Rules: Recovery 8 and 9
 
-use crate::numbers::Numbers;
+use crate::numbers::NumberSet;
 
 /// The numbers of the old ring's messages that a node delivers when it installs the new ring, in three lists.
 ///
@@ -14,14 +14,14 @@ pub struct Delivery {
     /// The numbers above the least safe mark that a transitional member reported, up to the greatest one.
     ///
     /// Their messages are safe in the old regular configuration.
-    pub regular: Numbers,
+    pub regular: NumberSet,
     /// The reported numbers above the greatest reported safe mark and below the gap.
     ///
     /// The gap is the least number, from 1 on, that no transitional member reported as held. The messages are delivered
     /// in the transitional configuration.
-    pub transitional: Numbers,
+    pub transitional: NumberSet,
     /// The reported numbers above the gap whose messages a transitional member sent.
     ///
     /// The messages are delivered in the transitional configuration too.
-    pub past_gap: Numbers,
+    pub past_gap: NumberSet,
 }

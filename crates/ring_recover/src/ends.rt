@@ -8,8 +8,8 @@ ghost use Rattle.std.specs.List.{list_all};
 ghost use Rattle.ring_base.specs.Processors.{has, elements};
 ghost use Rattle.ring_recover.specs.Installing.{in_front, is_ready_by};
 
-use crate::history::{nothing_seen, one_after};
-use crate::kinds::{is_end, is_user};
+use crate::history::{nothing_seen, with_message_last};
+use crate::payload_kinds::{is_end, is_user_payload};
 use ring_base::{Ghost, ProcSet};
 use ring_window::{Message, Window};
 use std::alloc::{AllocError, Allocator, Global};
@@ -21,19 +21,19 @@ use std::marker::Model;
 ///
 /// Rules: Recovery 7 and 11
 #[derive(Drop)]
-pub struct Ends<A: Allocator + Copy = Global> {
+pub struct EndCounts<A: Allocator + Copy = Global> {
     /// The number of messages counted: those numbered 1 to `upto`.
     upto: u64,
     /// The members whose End has been counted.
     ended: ProcSet,
     /// The number of the last End counted, 0 if there is none.
-    last: u64,
+    last_end: u64,
     /// Whether a user message has been counted.
     has_user: bool,
     history: Ghost<[Message<A>; 0]>,
 }
 
-impl<A: Allocator + Copy> Model for Ends<A> {
+impl<A: Allocator + Copy> Model for EndCounts<A> {
     ghost use Rattle.std.specs.Prelude.{List};
     ghost use Rattle.ring_window.specs.Messages.{Message as OneMessage};
     ghost use Rattle.ring_recover.specs.Ending.{HasEndCounts};
@@ -42,20 +42,20 @@ impl<A: Allocator + Copy> Model for Ends<A> {
 
     ghost view = { λ e. e.history.value };
 
-    ghost invariant = { λ e. HasEndCounts e.history.value e.upto e.ended e.last e.has_user };
+    ghost invariant = { λ e. HasEndCounts e.history.value e.upto e.ended e.last_end e.has_user };
 }
 
-impl<A: Allocator + Copy> Ends<A> {
+impl<A: Allocator + Copy> EndCounts<A> {
     /// Creates the counts for a new ring of which nothing is held yet: no End and no user message.
     ///
     /// Rules: Recovery 11
-    pub fn new() -> Ends<A>
+    pub fn new() -> EndCounts<A>
         ensures { result ≡ [] }
     {
-        Ends {
+        EndCounts {
             upto: 0,
             ended: ProcSet::new(),
-            last: 0,
+            last_end: 0,
             has_user: false,
             history: nothing_seen(),
         }
@@ -74,23 +74,23 @@ impl<A: Allocator + Copy> Ends<A> {
     {
         for before in self.upto..window.front() {
             if let Some(message) = window.get(before + 1) {
-                self.count(message);
+                self.count_message(message);
             }
         }
     }
 
-    fn count(&mut self, message: &Message<A>)
+    fn count_message(&mut self, message: &Message<A>)
         requires { length self.old + 1 < 2 ^ 64 }
         ensures { self.new ≡ self.old ++ message.now ∷ [] }
     {
         self.upto += 1;
         if is_end(&message.payload) {
             self.ended.insert(message.sender);
-            self.last = self.last.max(message.number);
-        } else if is_user(&message.payload) {
+            self.last_end = self.last_end.max(message.number);
+        } else if is_user_payload(&message.payload) {
             self.has_user = true;
         }
-        self.history = one_after(&self.history, message);
+        self.history = with_message_last(&self.history, message);
     }
 
     /// Returns whether the counted messages allow the new ring's installation.
@@ -103,25 +103,25 @@ impl<A: Allocator + Copy> Ends<A> {
     pub fn is_ready(&self, members: ProcSet, mark: u64) -> bool
         ensures { result ≡ is_ready_by self.now members mark }
     {
-        have_all(self.ended, members) && (self.last <= mark || self.has_user)
+        has_all_members(self.ended, members) && (self.last_end <= mark || self.has_user)
     }
 }
 
-impl<A: Allocator + Copy> Clone for Ends<A> {
+impl<A: Allocator + Copy> Clone for EndCounts<A> {
     ghost is_clone = { λ ends copy. copy ≡ ends };
 
-    fn clone(&self) -> Result<Ends<A>, AllocError> {
-        Ok(Ends {
+    fn clone(&self) -> Result<EndCounts<A>, AllocError> {
+        Ok(EndCounts {
             upto: self.upto,
             ended: self.ended,
-            last: self.last,
+            last_end: self.last_end,
             has_user: self.has_user,
             history: self.history.clone()?,
         })
     }
 }
 
-fn have_all(those: ProcSet, members: ProcSet) -> bool
+fn has_all_members(those: ProcSet, members: ProcSet) -> bool
     ensures { result ≡ list_all (has those) (elements members) }
 {
     members.iter().all(|member| those.contains(member))

@@ -12,14 +12,14 @@ pub(crate) fn nothing_seen<M>() -> Ghost<[M; 0]>
 }
 
 /// Returns the list with `message` added at its head.
-pub(crate) fn one_before<M>(history: &Ghost<[M; 0]>, message: &M) -> Ghost<[M; 0]>
+pub(crate) fn with_message_first<M>(history: &Ghost<[M; 0]>, message: &M) -> Ghost<[M; 0]>
     ensures { result.value ≡ message.now ∷ history.now.value }
 {
     ghost_of(&(history, message))
 }
 
 /// Returns the list with `message` added at its end.
-pub(crate) fn one_after<M>(history: &Ghost<[M; 0]>, message: &M) -> Ghost<[M; 0]>
+pub(crate) fn with_message_last<M>(history: &Ghost<[M; 0]>, message: &M) -> Ghost<[M; 0]>
     ensures { result.value ≡ history.now.value ++ message.now ∷ [] }
 {
     ghost_of(&(history, message))

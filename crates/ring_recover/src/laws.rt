@@ -6,7 +6,7 @@ ghost use Rattle.std.specs.Prelude.{◌≡◌, ℕ, List, Option, Some, true};
 ghost use Rattle.ring_commit.specs.Tokens.{CommitToken};
 ghost use Rattle.ring_window.specs.Messages.{Message};
 ghost use Rattle.ring_recover.specs.Plans.{Plan, plan_from};
-ghost use Rattle.ring_recover.specs.Deliveries.{is_complete, finish, rests, SameText};
+ghost use Rattle.ring_recover.specs.Deliveries.{is_complete, finish, rest_messages, SameText};
 
 use std::alloc::Allocator;
 
@@ -29,5 +29,5 @@ pub fn plan_law()
 /// Rules: Recovery 8 and 9
 pub fn finish_law<A: Allocator + Copy>()
     ensures parts { (p : Plan) (a b : List (Message A)) → SameText p.old a b → is_complete p a ≡ true → is_complete p b ≡ true → finish p a ≡ finish p b }
-    ensures messages { (p : Plan) (a b : List (Message A)) → SameText p.old a b → is_complete p a ≡ true → is_complete p b ≡ true → rests p a ≡ rests p b }
+    ensures messages { (p : Plan) (a b : List (Message A)) → SameText p.old a b → is_complete p a ≡ true → is_complete p b ≡ true → rest_messages p a ≡ rest_messages p b }
 {}

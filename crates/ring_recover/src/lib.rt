@@ -9,22 +9,22 @@
 mod delivery;
 mod ends;
 mod history;
-mod kinds;
 mod laws;
 mod numbers;
 mod offsets;
+mod payload_kinds;
 mod plan;
 mod reports;
 mod unwrapping;
 mod wrapping;
 
 pub use delivery::Delivery;
-pub use ends::Ends;
-pub use kinds::is_user;
+pub use ends::EndCounts;
 pub use laws::{finish_law, plan_law};
-pub use numbers::{NumberIterator, Numbers};
-pub use plan::{Plan, Plans};
+pub use numbers::{NumberIterator, NumberSet};
+pub use payload_kinds::is_user_payload;
+pub use plan::{Plan, PlanHistory};
 pub use ring_commit::Configuration;
-pub use ring_window::{bits_law, front_law};
+pub use ring_window::{held_bits_law, unique_front_law};
 pub use unwrapping::unwrap;
 pub use wrapping::wrap;

@@ -5,7 +5,7 @@
 ghost use Rattle.std.specs.Prelude.{◌≡◌, ℕ, ◌+◌, ◌-◌, ◌^◌, ◌<◌, ◌≤◌, true};
 ghost use Rattle.std.specs.Iterator.{YieldsFirst, item_count};
 ghost use Rattle.ring_window.specs.Bits.{is_set};
-ghost use Rattle.ring_recover.specs.Chosen.{chosen, AreWords};
+ghost use Rattle.ring_recover.specs.Chosen.{numbers_of_bits, AreWords};
 
 use crate::offsets::{COUNT, Offsets};
 use std::marker::Model;
@@ -16,29 +16,29 @@ use std::marker::Model;
 ///
 /// Rules: Recovery 8
 #[derive(Drop)]
-pub struct Numbers {
+pub struct NumberSet {
     after: u64,
     offsets: Offsets,
 }
 
-impl Model for Numbers {
+impl Model for NumberSet {
     ghost use Rattle.std.specs.Prelude.{ℕ, List};
-    ghost use Rattle.ring_recover.specs.Chosen.{chosen, AreWords};
+    ghost use Rattle.ring_recover.specs.Chosen.{numbers_of_bits, AreWords};
 
     ghost Value = { List ℕ };
 
-    ghost view = { λ n. chosen n.after n.offsets.words };
+    ghost view = { λ n. numbers_of_bits n.after n.offsets.words };
 
     ghost invariant = { λ n. AreWords n.after n.offsets.words };
 }
 
-impl Numbers {
+impl NumberSet {
     /// Creates the set of the numbers `after` + 1 + j, for each j of `offsets`. Each must fit a `u64`.
-    pub(crate) fn new(after: u64, offsets: Offsets) -> Numbers
+    pub(crate) fn new(after: u64, offsets: Offsets) -> NumberSet
         requires { AreWords after offsets.words }
-        ensures { result ≡ chosen after offsets.words }
+        ensures { result ≡ numbers_of_bits after offsets.words }
     {
-        Numbers { after, offsets }
+        NumberSet { after, offsets }
     }
 
     /// Returns an iterator over the numbers of the set, in ascending order, each once.
@@ -55,7 +55,7 @@ impl Numbers {
     }
 }
 
-/// An iterator over a [`Numbers`], in ascending order.
+/// An iterator over a [`NumberSet`], in ascending order.
 ///
 /// Contracts see the list of the numbers not yet yielded.
 ///

@@ -40,7 +40,7 @@ impl Offsets {
     }
 
     /// Returns whether `offset` is in the set. It is false for 256 and above.
-    pub(crate) fn has(&self, offset: usize) -> bool
+    pub(crate) fn contains_offset(&self, offset: usize) -> bool
         ensures { result ≡ is_set self.now.words offset }
     {
         match self.words.get(offset / 64) {
@@ -64,7 +64,7 @@ impl Offsets {
         ensures inside { result ≤ window_size }
     {
         for j in 0..COUNT {
-            if !self.has(j) {
+            if !self.contains_offset(j) {
                 return j;
             }
         }
@@ -78,7 +78,7 @@ impl Offsets {
         ensures { IsFirstSet self.now.words from result }
     {
         for j in from..COUNT {
-            if self.has(j) {
+            if self.contains_offset(j) {
                 return j;
             }
         }

@@ -8,21 +8,21 @@ ghost use Rattle.std.specs.List.{list_all};
 ghost use Rattle.std.specs.Option.{option_map};
 ghost use Rattle.ring_window.specs.Bits.{is_set};
 ghost use Rattle.ring_window.specs.Held.{holds, highest};
-ghost use Rattle.ring_window.specs.Windows.{kept};
-ghost use Rattle.ring_recover.specs.Chosen.{chosen};
+ghost use Rattle.ring_window.specs.Windows.{message_above_mark};
+ghost use Rattle.ring_recover.specs.Chosen.{numbers_of_bits};
 ghost use Rattle.ring_recover.specs.Plans.{plan_from, safe, low};
 ghost use Rattle.ring_recover.specs.Wrapping.{is_wrap_of, is_wrapped, has_own_end};
 ghost use Rattle.ring_recover.specs.Deliveries.{is_complete, regular_part, transitional_part, past_gap_part, finish};
-ghost use Rattle.ring_recover.specs.RecoveryState.{recovery_opening, with_seen, next_to_wrap, old_of, is_users, is_from};
+ghost use Rattle.ring_recover.specs.RecoveryState.{recovery_opening, with_seen, next_to_wrap, old_ring_of, is_user_message, is_sent_by_any};
 ghost use Rattle.ring_base.specs.Numbers.{window_size};
 
 use crate::delivery::Delivery;
-use crate::history::{nothing_seen, one_before};
-use crate::kinds::{is_end, is_user};
-use crate::numbers::Numbers;
+use crate::history::{nothing_seen, with_message_first};
+use crate::numbers::NumberSet;
 use crate::offsets::{COUNT, Offsets};
+use crate::payload_kinds::{is_end, is_user_payload};
 use crate::reports::{
-    greatest_mark, known_after, least_front, least_mark, none_behind, reports_of,
+    all_fronts_reach, greatest_mark, least_front, least_mark, reported_offsets_after, reports_of,
     transitional_members_among,
 };
 use ring_base::{Ghost, Proc, ProcSet, RingId, WINDOW_SIZE, ghost_of};
@@ -36,9 +36,9 @@ use std::marker::Model;
 /// Code never creates a value of this type.
 ///
 /// Rules: Recovery 1
-pub struct Plans {}
+pub struct PlanHistory {}
 
-impl Model for Plans {
+impl Model for PlanHistory {
     ghost use Rattle.std.specs.Prelude.{[]};
     ghost use Rattle.ring_recover.specs.Plans.{Plan as OnePlan};
 
@@ -58,9 +58,9 @@ pub struct Plan<A: Allocator + Copy = Global> {
     me: Proc,
     old_ring: RingId,
     transitional_members: ProcSet,
-    /// The least safe mark that a transitional member reported (`least`), the greatest one (`safe`), and the least
-    /// reported front (`low`).
-    least: u64,
+    /// The least safe mark that a transitional member reported (`least_safe_mark`), the greatest one (`safe`), and the
+    /// least reported front (`low`).
+    least_safe_mark: u64,
     safe: u64,
     low: u64,
     /// Of the 256 numbers after `safe`: those that a transitional member reported as held, and those seen wrapped.
@@ -68,7 +68,7 @@ pub struct Plan<A: Allocator + Copy = Global> {
     wrapped: Offsets,
     /// Whether an End of this node has been seen.
     ended: bool,
-    plan: Ghost<Plans>,
+    plan: Ghost<PlanHistory>,
     seen: Ghost<[Message<A>; 0]>,
 }
 
@@ -80,7 +80,7 @@ impl<A: Allocator + Copy> Model for Plan<A> {
     ghost view = { λ p. record { me = p.me; plan = p.plan.value; seen = p.seen.value } };
 
     ghost invariant = { λ p. IsPlanKept (record { me = p.me; plan = p.plan.value; seen = p.seen.value }) p.old_ring p.transitional_members
-        p.least p.safe p.low p.known.words p.wrapped.words p.ended };
+        p.least_safe_mark p.safe p.low p.known.words p.wrapped.words p.ended };
 }
 
 impl<A: Allocator + Copy> Plan<A> {
@@ -94,12 +94,12 @@ impl<A: Allocator + Copy> Plan<A> {
     pub fn from_commit(me: Proc, token: &CommitToken) -> Option<Plan<A>>
         ensures { result ≡ option_map (recovery_opening me) (plan_from me token.now) }
     {
-        let old = old_of(me, token)?;
+        let old = old_ring_of(me, token)?;
         let entries = token.entries.as_slice();
         let reports = reports_of(&old, entries);
         let reports = reports.as_slice();
         let safe = greatest_mark(reports);
-        if !none_behind(safe, reports) {
+        if !all_fronts_reach(safe, reports) {
             return None;
         }
         let plan = ghost_of(&(&old, token));
@@ -107,10 +107,10 @@ impl<A: Allocator + Copy> Plan<A> {
             me,
             old_ring: old,
             transitional_members: transitional_members_among(&old, token.members, entries),
-            least: least_mark(reports),
+            least_safe_mark: least_mark(reports),
             safe,
             low: least_front(reports),
-            known: known_after(safe, reports),
+            known: reported_offsets_after(safe, reports),
             wrapped: Offsets::new(),
             ended: false,
             plan,
@@ -141,10 +141,11 @@ impl<A: Allocator + Copy> Plan<A> {
 
     /// Returns the greatest safe mark that a transitional member reported, S of the rules.
     ///
-    /// Each transitional member holds every number of the old ring up to it. It is at most [`low`](Plan::low).
+    /// Each transitional member holds every number of the old ring up to it. It is at most
+    /// [`least_reported_front`](Plan::least_reported_front).
     ///
     /// Rules: Recovery 1
-    pub fn safe(&self) -> u64
+    pub fn greatest_reported_safe_mark(&self) -> u64
         ensures value { result ≡ safe self.now.plan }
         ensures sound { safe self.now.plan ≤ low self.now.plan }
     {
@@ -156,7 +157,7 @@ impl<A: Allocator + Copy> Plan<A> {
     /// Each transitional member holds every number of the old ring up to it, so none of these is wrapped.
     ///
     /// Rules: Recovery 1 and 4
-    pub fn low(&self) -> u64
+    pub fn least_reported_front(&self) -> u64
         ensures { result ≡ low self.now.plan }
     {
         self.low
@@ -179,7 +180,7 @@ impl<A: Allocator + Copy> Plan<A> {
         if is_end(&message.payload) && message.sender == self.me {
             self.ended = true;
         }
-        self.seen = one_before(&self.seen, message);
+        self.seen = with_message_first(&self.seen, message);
     }
 
     /// Returns whether an End of this node was recorded. If so, it must not send another.
@@ -201,7 +202,8 @@ impl<A: Allocator + Copy> Plan<A> {
         requires high { number ≤ safe self.now.plan + window_size }
         ensures { result ≡ is_wrapped self.now.seen self.now.plan.old number }
     {
-        self.wrapped.has((number - self.safe - 1) as usize)
+        self.wrapped
+            .contains_offset((number - self.safe - 1) as usize)
     }
 
     /// Returns the number of the message to wrap next, or `None` if nothing is left to wrap.
@@ -222,7 +224,9 @@ impl<A: Allocator + Copy> Plan<A> {
     {
         for before in self.low..window.highest() {
             let number = before + 1;
-            if !self.wrapped.has((before - self.safe) as usize) && has_users(window, number) {
+            if !self.wrapped.contains_offset((before - self.safe) as usize)
+                && has_user_message(window, number)
+            {
                 return Some(number);
             }
         }
@@ -247,9 +251,9 @@ impl<A: Allocator + Copy> Plan<A> {
             return None;
         }
         Some(Delivery {
-            regular: self.regular(),
-            transitional: self.transitional(window),
-            past_gap: self.past_gap(window),
+            regular: self.regular_numbers(),
+            transitional: self.transitional_numbers(window),
+            past_gap: self.numbers_past_gap(window),
         })
     }
 
@@ -257,20 +261,23 @@ impl<A: Allocator + Copy> Plan<A> {
         requires ring { window.now.ring ≡ self.now.plan.old }
         ensures { result ≡ is_complete self.now.plan window.now.held }
     {
-        self.safe <= window.front() && are_held(&self.known, self.safe, window)
+        self.safe <= window.front() && holds_all_offsets(&self.known, self.safe, window)
     }
 
     /// Returns the numbers that are safe in the old regular configuration: above the least reported safe mark, up to
     /// the greatest.
-    fn regular(&self) -> Numbers
+    fn regular_numbers(&self) -> NumberSet
         ensures { result ≡ regular_part self.now.plan }
     {
-        let count = self.safe.saturating_sub(self.least);
-        Numbers::new(self.least, Offsets::from_test(|j| (j as u64) < count))
+        let count = self.safe.saturating_sub(self.least_safe_mark);
+        NumberSet::new(
+            self.least_safe_mark,
+            Offsets::from_test(|j| (j as u64) < count),
+        )
     }
 
     /// Returns the reported numbers above the greatest reported safe mark and below the gap.
-    fn transitional(&self, window: &Window<A>) -> Numbers
+    fn transitional_numbers(&self, window: &Window<A>) -> NumberSet
         requires ring { window.now.ring ≡ self.now.plan.old }
         requires complete { is_complete self.now.plan window.now.held ≡ true }
         ensures { result ≡ transitional_part self.now.plan }
@@ -278,12 +285,12 @@ impl<A: Allocator + Copy> Plan<A> {
         let known = self.known;
         let gap = known.first_clear();
         let reach = window.highest().saturating_sub(self.safe);
-        let below = Offsets::from_test(|j| is_below(&known, reach, gap, j));
-        Numbers::new(self.safe, below)
+        let below = Offsets::from_test(|j| is_known_below_gap(&known, reach, gap, j));
+        NumberSet::new(self.safe, below)
     }
 
     /// Returns the reported numbers past the gap whose messages a transitional member sent.
-    fn past_gap(&self, window: &Window<A>) -> Numbers
+    fn numbers_past_gap(&self, window: &Window<A>) -> NumberSet
         requires ring { window.now.ring ≡ self.now.plan.old }
         requires mark { window.now.mark ≤ safe self.now.plan }
         requires complete { is_complete self.now.plan window.now.held ≡ true }
@@ -293,7 +300,7 @@ impl<A: Allocator + Copy> Plan<A> {
         let gap = known.first_clear();
         let reach = window.highest().saturating_sub(self.safe);
         let (safe, transitional_members) = (self.safe, self.transitional_members);
-        let history = Offsets::from_test(|j| is_past(
+        let history = Offsets::from_test(|j| is_delivered_past_gap(
             &known,
             reach,
             gap,
@@ -302,7 +309,7 @@ impl<A: Allocator + Copy> Plan<A> {
             safe,
             j,
         ));
-        Numbers::new(safe, history)
+        NumberSet::new(safe, history)
     }
 }
 
@@ -314,7 +321,7 @@ impl<A: Allocator + Copy> Clone for Plan<A> {
             me: self.me,
             old_ring: self.old_ring,
             transitional_members: self.transitional_members,
-            least: self.least,
+            least_safe_mark: self.least_safe_mark,
             safe: self.safe,
             low: self.low,
             known: self.known,
@@ -327,8 +334,8 @@ impl<A: Allocator + Copy> Clone for Plan<A> {
 }
 
 /// Returns the old ring of processor `me`, or `None` if it isn't a member or a member has no entry yet.
-fn old_of(me: Proc, token: &CommitToken) -> Option<RingId>
-    ensures { result ≡ old_of me token.now }
+fn old_ring_of(me: Proc, token: &CommitToken) -> Option<RingId>
+    ensures { result ≡ old_ring_of me token.now }
 {
     let entries = token.entries.as_slice();
     if !token.members.contains(me) || entries.len() < token.members.len() as usize {
@@ -372,44 +379,44 @@ fn mark_offset(offsets: &mut Offsets, after: u64, number: u64)
 }
 
 /// Returns whether the window still has message `number` and it is a user message.
-fn has_users<A: Allocator + Copy>(window: &Window<A>, number: u64) -> bool
-    ensures { result ≡ is_users (kept window.now number) }
+fn has_user_message<A: Allocator + Copy>(window: &Window<A>, number: u64) -> bool
+    ensures { result ≡ is_user_message (message_above_mark window.now number) }
 {
     match window.get(number) {
-        Some(message) => is_user(&message.payload),
+        Some(message) => is_user_payload(&message.payload),
         None => false,
     }
 }
 
 /// Returns whether the window holds the number `after + 1 + offset` for each of the offsets.
-fn are_held<A: Allocator + Copy>(offsets: &Offsets, after: u64, window: &Window<A>) -> bool
-    ensures { result ≡ list_all (holds window.now.held window.now.ring) (chosen after offsets.now.words) }
+fn holds_all_offsets<A: Allocator + Copy>(offsets: &Offsets, after: u64, window: &Window<A>) -> bool
+    ensures { result ≡ list_all (holds window.now.held window.now.ring) (numbers_of_bits after offsets.now.words) }
 {
     for j in 0..COUNT {
-        if offsets.has(j) && !is_held(window, after, j) {
+        if offsets.contains_offset(j) && !holds_offset(window, after, j) {
             return false;
         }
     }
     true
 }
 
-fn is_held<A: Allocator + Copy>(window: &Window<A>, after: u64, offset: usize) -> bool
+fn holds_offset<A: Allocator + Copy>(window: &Window<A>, after: u64, offset: usize) -> bool
     ensures { result ≡ holds window.now.held window.now.ring (after + 1 + offset) }
 {
     let reach = window.highest().saturating_sub(after);
     let offset = offset as u64;
-    offset < reach && window.holds(after + 1 + offset)
+    offset < reach && window.has_taken(after + 1 + offset)
 }
 
 /// Returns whether an offset is known, below the gap and below `reach`.
-fn is_below(known: &Offsets, reach: u64, gap: usize, offset: usize) -> bool
+fn is_known_below_gap(known: &Offsets, reach: u64, gap: usize, offset: usize) -> bool
     ensures { result ≡ (nat_lt offset reach && (nat_lt offset gap && is_set known.now.words offset)) }
 {
-    (offset as u64) < reach && offset < gap && known.has(offset)
+    (offset as u64) < reach && offset < gap && known.contains_offset(offset)
 }
 
 /// Returns whether an offset is known, past the gap and below `reach`, and one of `senders` sent its message.
-fn is_past<A: Allocator + Copy>(
+fn is_delivered_past_gap<A: Allocator + Copy>(
     known: &Offsets,
     reach: u64,
     gap: usize,
@@ -418,23 +425,23 @@ fn is_past<A: Allocator + Copy>(
     after: u64,
     offset: usize,
 ) -> bool
-    ensures { result ≡ (nat_lt offset reach && (nat_lt gap offset && (is_set known.now.words offset && is_from senders (kept window.now
+    ensures { result ≡ (nat_lt offset reach && (nat_lt gap offset && (is_set known.now.words offset && is_sent_by_any senders (message_above_mark window.now
         (after + 1 + offset))))) }
 {
     (offset as u64) < reach
         && gap < offset
-        && known.has(offset)
-        && is_from(senders, window, after, offset)
+        && known.contains_offset(offset)
+        && is_sent_by_any(senders, window, after, offset)
 }
 
 /// Returns whether the window still has message `after + 1 + offset`, and one of `senders` sent it.
-fn is_from<A: Allocator + Copy>(
+fn is_sent_by_any<A: Allocator + Copy>(
     senders: ProcSet,
     window: &Window<A>,
     after: u64,
     offset: usize,
 ) -> bool
-    ensures { result ≡ is_from senders (kept window.now (after + 1 + offset)) }
+    ensures { result ≡ is_sent_by_any senders (message_above_mark window.now (after + 1 + offset)) }
 {
     let reach = window.highest().saturating_sub(after);
     let offset = offset as u64;

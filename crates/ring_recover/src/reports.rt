@@ -41,7 +41,7 @@ pub(crate) fn greatest_mark(reports: &[CommitEntry]) -> u64
 }
 
 /// Returns whether every reported front is at least `safe`. It is true if there is no report.
-pub(crate) fn none_behind(safe: u64, reports: &[CommitEntry]) -> bool
+pub(crate) fn all_fronts_reach(safe: u64, reports: &[CommitEntry]) -> bool
     ensures { result ≡ none_behind safe reports.now }
 {
     reports.iter().all(|report| safe <= report.front)
@@ -83,19 +83,19 @@ pub(crate) fn least_front(reports: &[CommitEntry]) -> u64
 /// j.
 ///
 /// No reported front may be below `safe`.
-pub(crate) fn known_after(safe: u64, reports: &[CommitEntry]) -> Offsets
+pub(crate) fn reported_offsets_after(safe: u64, reports: &[CommitEntry]) -> Offsets
     requires { none_behind safe reports.now ≡ true }
     ensures { (j : ℕ) → j < window_size → is_set result.words j ≡ list_any (is_reported (safe + 1 + j)) reports.now }
 {
-    Offsets::from_test(|j| is_any_holding(safe, j, reports))
+    Offsets::from_test(|j| is_offset_reported(safe, j, reports))
 }
 
 /// Returns whether some report holds the number `safe + 1 + offset`, provided that no reported front is below `safe`.
-fn is_any_holding(safe: u64, offset: usize, reports: &[CommitEntry]) -> bool
+fn is_offset_reported(safe: u64, offset: usize, reports: &[CommitEntry]) -> bool
     ensures { none_behind safe reports.now ≡ true → result ≡ list_any (is_reported (safe + 1 + offset)) reports.now }
 {
     for report in reports {
-        if is_holding(safe, offset, report) {
+        if reports_offset(safe, offset, report) {
             return true;
         }
     }
@@ -103,12 +103,13 @@ fn is_any_holding(safe: u64, offset: usize, reports: &[CommitEntry]) -> bool
 }
 
 /// Returns whether the report holds the number `safe + 1 + offset`, provided that its front is at least `safe`.
-fn is_holding(safe: u64, offset: usize, report: &CommitEntry) -> bool
+fn reports_offset(safe: u64, offset: usize, report: &CommitEntry) -> bool
     ensures { safe ≤ report.now.front → result ≡ is_reported (safe + 1 + offset) report.now }
 {
     let ahead = report.front.saturating_sub(safe);
     let offset = offset as u64;
-    offset < ahead || (offset - ahead < WINDOW_SIZE && report.is_held((offset - ahead) as usize))
+    offset < ahead
+        || (offset - ahead < WINDOW_SIZE && report.is_held_bit((offset - ahead) as usize))
 }
 
 /// Returns the members whose entry names the ring `old`.

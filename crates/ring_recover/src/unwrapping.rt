@@ -10,7 +10,7 @@ ghost use Rattle.ring_window.specs.Held.{is_new};
 ghost use Rattle.ring_recover.specs.Wrapping.{inner_if_new};
 
 use ring_base::Fault;
-use ring_window::{Content, Message, Payload, Window, Wrapped};
+use ring_window::{Message, Payload, Window, Wrapped, WrappedPayload};
 use std::alloc::Allocator;
 
 /// Adds the inner message of a Wrapped to the old ring's window, if it belongs to that ring and its number is new
@@ -41,7 +41,7 @@ pub fn unwrap<A: Allocator + Copy>(
         ring: wrapped.ring,
         number: wrapped.number,
         sender: wrapped.sender,
-        payload: payload_of(&wrapped.payload)?,
+        payload: payload_from_content(&wrapped.payload)?,
     };
     Ok(window.take(message))
 }
@@ -49,15 +49,17 @@ pub fn unwrap<A: Allocator + Copy>(
 /// Returns a copy of the wrapped content as a payload.
 ///
 /// Errors: `Memory` if an allocation fails.
-fn payload_of<A: Allocator + Copy>(content: &Content<A>) -> Result<Payload<A>, Fault>
+fn payload_from_content<A: Allocator + Copy>(
+    content: &WrappedPayload<A>,
+) -> Result<Payload<A>, Fault>
     ensures ok { IfOk result (λ payload. payload ≡ payload_of content.now) }
     ensures refused { IfErr result (λ fault. fault ≡ Memory) }
 {
     match content {
-        Content::Call(call) => Ok(Payload::Call(call.clone()?)),
-        Content::Head(head) => Ok(Payload::Head(*head)),
-        Content::Part(part) => Ok(Payload::Part(part.clone()?)),
-        Content::Pack(pack) => Ok(Payload::Pack(pack.clone()?)),
-        Content::Snap(snap) => Ok(Payload::Snap(snap.clone()?)),
+        WrappedPayload::Call(call) => Ok(Payload::Call(call.clone()?)),
+        WrappedPayload::Head(head) => Ok(Payload::Head(*head)),
+        WrappedPayload::Part(part) => Ok(Payload::Part(part.clone()?)),
+        WrappedPayload::Pack(pack) => Ok(Payload::Pack(pack.clone()?)),
+        WrappedPayload::Snap(snap) => Ok(Payload::Snap(snap.clone()?)),
     }
 }

@@ -8,7 +8,7 @@ ghost use Rattle.ring_window.specs.Payloads.{content_of};
 ghost use Rattle.ring_recover.specs.Wrapping.{wrap};
 
 use ring_base::Fault;
-use ring_window::{Content, Message, Payload, Wrapped};
+use ring_window::{Message, Payload, Wrapped, WrappedPayload};
 use std::alloc::Allocator;
 
 /// Returns a Wrapped with a copy of a user message of the old ring: its ring, number, sender and payload.
@@ -22,7 +22,7 @@ pub fn wrap<A: Allocator + Copy>(message: &Message<A>) -> Result<Option<Payload<
     ensures ok { IfOk result (λ wrapped. wrapped ≡ wrap message.now) }
     ensures refused { IfErr result (λ fault. fault ≡ Memory) }
 {
-    match content_of(&message.payload)? {
+    match content_from_payload(&message.payload)? {
         Some(payload) => Ok(Some(Payload::Wrapped(Wrapped {
             ring: message.ring,
             number: message.number,
@@ -36,16 +36,18 @@ pub fn wrap<A: Allocator + Copy>(message: &Message<A>) -> Result<Option<Payload<
 /// Returns a copy of a user payload as the content of a Wrapped, or `None` for any other payload.
 ///
 /// Errors: `Memory` if an allocation fails.
-fn content_of<A: Allocator + Copy>(payload: &Payload<A>) -> Result<Option<Content<A>>, Fault>
+fn content_from_payload<A: Allocator + Copy>(
+    payload: &Payload<A>,
+) -> Result<Option<WrappedPayload<A>>, Fault>
     ensures ok { IfOk result (λ content. content ≡ content_of payload.now) }
     ensures refused { IfErr result (λ fault. fault ≡ Memory) }
 {
     match payload {
-        Payload::Call(call) => Ok(Some(Content::Call(call.clone()?))),
-        Payload::Head(head) => Ok(Some(Content::Head(*head))),
-        Payload::Part(part) => Ok(Some(Content::Part(part.clone()?))),
-        Payload::Pack(pack) => Ok(Some(Content::Pack(pack.clone()?))),
-        Payload::Snap(snap) => Ok(Some(Content::Snap(snap.clone()?))),
+        Payload::Call(call) => Ok(Some(WrappedPayload::Call(call.clone()?))),
+        Payload::Head(head) => Ok(Some(WrappedPayload::Head(*head))),
+        Payload::Part(part) => Ok(Some(WrappedPayload::Part(part.clone()?))),
+        Payload::Pack(pack) => Ok(Some(WrappedPayload::Pack(pack.clone()?))),
+        Payload::Snap(snap) => Ok(Some(WrappedPayload::Snap(snap.clone()?))),
         Payload::Wrapped(_) | Payload::End => Ok(None),
     }
 }

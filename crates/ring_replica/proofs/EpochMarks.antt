@@ -8,7 +8,7 @@ use Rattle.ring_payload.specs.declared.content.Payload.{Payload}
 use Rattle.ring_core_spec.specs.Frames.{Message}
 use Rattle.ring_core_spec.proofs.Tokens.{safe_mark-turn, safe_mark-raise}
 use Rattle.ring_core_spec.specs.Commits.{Configuration}
-use Rattle.ring_core_spec.specs.Recoveries.{rests}
+use Rattle.ring_core_spec.specs.Recoveries.{rest_messages}
 use Rattle.ring_core_spec.specs.declared.input.Input.{Input}
 use Rattle.ring_core_spec.specs.declared.input.Input.TheVariants.{Send as SendInput}
 use Rattle.ring_core_spec.specs.declared.out.Out.{Out}
@@ -18,8 +18,8 @@ use Rattle.ring_core_spec.specs.Joining.{proposes}
 use Rattle.ring_core_spec.specs.Views.{front, mark, plan}
 use Rattle.ring_core_spec.specs.Deciding.{Transition, Ignore, Enqueue, Repeat, Announce, Invite, GiveUp, EnterGather, Agree, MergeJoin, EnterGatherAndAgree}
 use Rattle.ring_core_spec.specs.Deciding.{EnterGatherAndMergeJoin, Take, Visit, Fill, Learn, decide}
-use Rattle.ring_core_spec.specs.Transitions.{apply_transition, may_propose_after, with_proposal_if, done}
-use Rattle.ring_core_spec.specs.Giving.{may_install, addressed, sent, users, agreed_from, safe_from, delivered_from, given, installation_outputs, settle}
+use Rattle.ring_core_spec.specs.Transitions.{apply_transition, may_propose_after, with_proposal_if, transition_and_proposal}
+use Rattle.ring_core_spec.specs.Giving.{may_install, sends_with_receivers, sent, user_messages_between, agreed_from, safe_from, delivered_from, agreed_and_safe_of_step, installation_outputs, with_installation_if}
 use Rattle.ring_core_spec.specs.Stepping.{ring_step}
 use Rattle.ring_log.specs.Epochs.{Epoch, epoch_opening, epochs_with_sends}
 use Rattle.ring_replication.specs.NodeSpec.{epochs_after_event, epochs_after, is_stopped, handed_over}
@@ -57,7 +57,7 @@ proposed_kept : {A : Type 0} → (b : Bool) (c : Core A) (d : TransitionResult A
 proposed_kept false c d k = k
 proposed_kept true c d k = record { installed = k.installed; me = k.me; epochs_with_mark = k.epochs_with_mark; going = λ h. refl }
 
-pub done_kept : {A : Type 0} → (c : Core A) (a : Transition A) → IsMarkKept c (done c a).core
+pub done_kept : {A : Type 0} → (c : Core A) (a : Transition A) → IsMarkKept c (transition_and_proposal c a).core
 done_kept c a = proposed_kept (may_propose_after a && proposes (apply_transition c a).core) c (apply_transition c a) (act_kept c a)
 
 -- Outputs extend a life, and none of them lowers a mark
@@ -126,19 +126,19 @@ goes_then s older xs ys m n g h =
 pub goes_delivered : {A : Type 0} → (c : Core A) (ring : RingId) (s : Epoch A) (older : List (Epoch A)) (f m : ℕ) → s.mark ≤ m → m ≤ mark c ring →
     IsHeldLogContinued s older (delivered_from c ring f m) (mark c ring)
 goes_delivered c ring s older f m low high =
-    let a = goes_agreed s older ring (users c ring f (front c ring)) m low in
+    let a = goes_agreed s older ring (user_messages_between c ring f (front c ring)) m low in
     goes_then s older (agreed_from c ring f) (safe_from c ring m) m (mark c ring) a (goes_safe c ring a.epoch older m a.marked high)
 
 -- the first sends, and the outputs of the ring installed as the step began
 goes_given : {A : Type 0} → (c d : Core A) (sends : List (OutgoingFrame A)) (s : Epoch A) (older : List (Epoch A)) →
-    s.mark ≤ mark c c.installed.ring → mark c c.installed.ring ≤ mark d c.installed.ring → IsHeldLogContinued s older (sent sends ++ given c d) (mark d c.installed.ring)
+    s.mark ≤ mark c c.installed.ring → mark c c.installed.ring ≤ mark d c.installed.ring → IsHeldLogContinued s older (sent sends ++ agreed_and_safe_of_step c d) (mark d c.installed.ring)
 goes_given c d sends s older low high =
     let ring = c.installed.ring in
     let g = goes_delivered d ring s older (front c ring) (mark c ring) low high in
     record {
       epoch = g.epoch;
-      leads = leads_then _ _ _ (sent sends) (given c d)
-          (leads_sends (s ∷ older) (addressed sends)) g.leads;
+      leads = leads_then _ _ _ (sent sends) (agreed_and_safe_of_step c d)
+          (leads_sends (s ∷ older) (sends_with_receivers sends)) g.leads;
       ring = g.ring;
       marked = g.marked;
     }
@@ -150,7 +150,7 @@ pub goes_configured : {A : Type 0} → (d : Core A) (epochs : List (Epoch A)) �
 goes_configured {A} d epochs =
     let new = epoch_opening d.running.ring d.running.members in
     let g = goes_delivered d d.running.ring new epochs 0 0 (le_refl 0) zero-le in
-    let xs = rests (plan d) d.held in (
+    let xs = rest_messages (plan d) d.held in (
       g.epoch,
       g.ring,
       g.marked,
@@ -170,7 +170,7 @@ record Steps {A : Type 0} (c : Core A) (epochs : List (Epoch A)) (outs : List (O
 
 steps_by : {A : Type 0} → (b : Bool) (c : Core A) (d : TransitionResult A) (s : Epoch A) (older : List (Epoch A)) → IsMarkKept c d.core → s.ring ≡ c.installed.ring →
     s.mark ≤ mark c c.installed.ring →
-    Steps (settle b d.core (sent d.sends ++ given c d.core)).core (s ∷ older) (settle b d.core (sent d.sends ++ given c d.core)).outs
+    Steps (with_installation_if b d.core (sent d.sends ++ agreed_and_safe_of_step c d.core)).core (s ∷ older) (with_installation_if b d.core (sent d.sends ++ agreed_and_safe_of_step c d.core)).outs
 steps_by {A} false c d s older k r m =
     let g = goes_given c d.core d.sends s older m (k.epochs_with_mark c.installed.ring) in
     record {
@@ -186,7 +186,7 @@ steps_by {A} true c d s older k r m =
     record {
       epoch = n.0;
       older = g.epoch ∷ older;
-      leads = leads_then _ _ _ (sent d.sends ++ given c d.core) (installation_outputs d.core) g.leads n.3;
+      leads = leads_then _ _ _ (sent d.sends ++ agreed_and_safe_of_step c d.core) (installation_outputs d.core) g.leads n.3;
       ring = n.1;
       marked = n.2;
     }
@@ -194,9 +194,9 @@ steps_by {A} true c d s older k r m =
 stepped : {A : Type 0} → (c : Core A) (epochs : List (Epoch A)) (input : Input A) → IsMarked c epochs → Steps (ring_step c input).core epochs (ring_step c input).outs
 unfolding ring_step
 stepped {A} c epochs input h =
-    let d = done c (decide c input) in
-    subst (λ (l : List (Epoch A)). Steps (settle (may_install d.core) d.core (sent d.sends ++ given c d.core)).core l
-    (settle (may_install d.core) d.core (sent d.sends ++ given c d.core)).outs)
+    let d = transition_and_proposal c (decide c input) in
+    subst (λ (l : List (Epoch A)). Steps (with_installation_if (may_install d.core) d.core (sent d.sends ++ agreed_and_safe_of_step c d.core)).core l
+    (with_installation_if (may_install d.core) d.core (sent d.sends ++ agreed_and_safe_of_step c d.core)).outs)
     (sym h.parts) (steps_by (may_install d.core) c d h.epoch h.older (done_kept c (decide c input)) h.ring h.marked)
 
 pub rises_step : {A : Type 0} → (c : Core A) (epochs : List (Epoch A)) (input : Input A) → IsMarked c epochs → rises epochs (ring_step c input).outs ≡ true
@@ -208,25 +208,25 @@ marked_step c epochs input h =
     let s = stepped c epochs input h in
     record { epoch = s.epoch; older = s.older; parts = s.leads.node_epochs; ring = s.ring; marked = s.marked; ready = stepped_is c input }
 
-settle_me : {A : Type 0} → (b : Bool) (c : Core A) (outs : List (Out A)) → (settle b c outs).core.me ≡ c.me
+settle_me : {A : Type 0} → (b : Bool) (c : Core A) (outs : List (Out A)) → (with_installation_if b c outs).core.me ≡ c.me
 settle_me false c outs = refl
 settle_me true c outs = refl
 
 pub me_step : {A : Type 0} → (c : Core A) (input : Input A) → (ring_step c input).core.me ≡ c.me
 unfolding ring_step
 me_step c input =
-    let d = done c (decide c input) in
-    settle_me (may_install d.core) d.core (sent d.sends ++ given c d.core) ∙ (done_kept c (decide c input)).me
+    let d = transition_and_proposal c (decide c input) in
+    settle_me (may_install d.core) d.core (sent d.sends ++ agreed_and_safe_of_step c d.core) ∙ (done_kept c (decide c input)).me
 
-settle_going : {A : Type 0} → (b : Bool) (c : Core A) (outs : List (Out A)) → is_stopped c.state ≡ false → is_stopped (settle b c outs).core.state ≡ false
+settle_going : {A : Type 0} → (b : Bool) (c : Core A) (outs : List (Out A)) → is_stopped c.state ≡ false → is_stopped (with_installation_if b c outs).core.state ≡ false
 settle_going false c outs h = h
 settle_going true c outs h = refl
 
 pub going_step : {A : Type 0} → (c : Core A) (input : Input A) → is_stopped c.state ≡ false → is_stopped (ring_step c input).core.state ≡ false
 unfolding ring_step
 going_step c input h =
-    let d = done c (decide c input) in
-    settle_going (may_install d.core) d.core (sent d.sends ++ given c d.core) ((done_kept c (decide c input)).going h)
+    let d = transition_and_proposal c (decide c input) in
+    settle_going (may_install d.core) d.core (sent d.sends ++ agreed_and_safe_of_step c d.core) ((done_kept c (decide c input)).going h)
 
 -- Payloads handed over
 

@@ -12,17 +12,17 @@ use Rattle.ring_core_spec.specs.declared.out.Out.{Out}
 use Rattle.ring_core_spec.specs.declared.out.Out.TheVariants.{Send, Agreed, Safe, Trans, Rest, Regular}
 use Rattle.ring_log.specs.declared.received_head.ReceivedHead.{ReceivedHead}
 use Rattle.ring_log.specs.declared.wanted.Wanted.{Wanted}
-use Rattle.ring_log.specs.Exchanges.{Exchange, exchange_opening, wanted_of, wanted_by, wanted}
+use Rattle.ring_log.specs.Exchanges.{Exchange, exchange_opening, wanted_from_owner, wanted_from_heads, wanted}
 use Rattle.ring_log.specs.Heads.{chosen_head, least_committed}
 use Rattle.ring_log.specs.Logs.{Log}
 use Rattle.ring_log.specs.Epochs.{Epoch, epochs_with_message}
-use Rattle.ring_log.specs.EpochHistories.{after_all}
+use Rattle.ring_log.specs.EpochHistories.{exchange_after_messages}
 use Rattle.ring_log.specs.KnownLog.{KnownLog, known_log_of, retained_log}
 use Rattle.ring_replication.specs.NodeSpec.{has_all_heads, parts_due, snaps_due, is_snapshot_kept, places_due, owner_due, due_when_heads_complete, epochs_after_event}
 use Rattle.ring_replication.specs.Replications.{StepContext, bytes_at, is_running, owner_due_sends, due_sends_when_complete, due_sends_on_message, due_sends_at, due_sends_by}
 
 -- a wanted snapshot stands for at least one place
-some-places : (owner : ℕ) (head : OneHead) (least at : ℕ) → (wanted_of owner head least).snapshot ≡ Some at → 0 < at
+some-places : (owner : ℕ) (head : OneHead) (least at : ℕ) → (wanted_from_owner owner head least).snapshot ≡ Some at → 0 < at
 some-places owner head least at e = by (nat_lt least head.trimmed) refl e
   where
     with_it : Wanted
@@ -51,13 +51,13 @@ owner-same : {A : Type 0} (me : ℕ) (bytes bytes' : List ℕ) (log : Log A) (e 
 owner-same me bytes bytes' log e none = by (e.missing_heads == nobody) e.heads
   where
     by : (b : Bool) (heads : List ReceivedHead)
-        → owner_due me bytes log (if b then wanted_by heads else None) ≡ owner_due me bytes' log (if b then wanted_by heads else None)
+        → owner_due me bytes log (if b then wanted_from_heads heads else None) ≡ owner_due me bytes' log (if b then wanted_from_heads heads else None)
     by false heads = refl
     by true [] = refl
     by true (s ∷ rest) =
         let head = (chosen_head s rest).head in
         let least = least_committed s.head.committed rest in
-        let w = wanted_of (chosen_head s rest).sender head least in
+        let w = wanted_from_owner (chosen_head s rest).sender head least in
         ap (λ l. if w.owner == me then l else [])
         (places-same bytes bytes' log w w.snapshot none (some-places (chosen_head s rest).sender head least))
 
@@ -84,8 +84,8 @@ module _ {A : Type 0} (m : StepContext A) (bytes : List ℕ) (none : m.trimmed �
       → due_sends_on_message other runs epochs x after ≡ due_sends_on_message m runs epochs x after
   heard-first runs [] x after = refl
   heard-first runs (s ∷ older) x after =
-      let old : Exchange A = after_all (exchange_opening s.members) s.heard in
-      let new : Exchange A = after_all (exchange_opening s.members) (s.heard ++ x ∷ []) in
+      let old : Exchange A = exchange_after_messages (exchange_opening s.members) s.heard in
+      let new : Exchange A = exchange_after_messages (exchange_opening s.members) (s.heard ++ x ∷ []) in
       ap (λ l. if runs then (if is_primary m.group s.members then l ++ due_sends_when_complete m after old new else []) else [])
       (owner-due_sends (known_log_of m.group (s ∷ older)) old new)
 

@@ -7,7 +7,7 @@ use Rattle.std.proofs.lemmas.List.{drop_all, length-take}
 use Rattle.ring_object.specs.Operations.{Sequential}
 use Rattle.ring_payload.specs.Limits.{max_snapshot}
 use Rattle.ring_payload.specs.declared.call.Call.{Call as OneCall}
-use Rattle.ring_session.specs.declared.answered.TicketAnswer.{TicketAnswer}
+use Rattle.ring_session.specs.declared.ticket_answer.TicketAnswer.{TicketAnswer}
 use Rattle.ring_session.specs.Tickets.{answers_after}
 use Rattle.ring_log.specs.Logs.{committed_calls, is_due_to_trim}
 use Rattle.ring_log.specs.Epochs.{Epoch, epochs_with_sends, epochs_with_trim}

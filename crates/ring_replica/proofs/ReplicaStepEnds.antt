@@ -14,15 +14,15 @@ use Rattle.ring_payload.specs.declared.content.Payload.{Payload}
 use Rattle.ring_session.specs.Snapshots.{table_snapshot}
 use Rattle.ring_session.specs.Table.{Table, table_next}
 use Rattle.ring_session.specs.TicketEffects.{done_after, table_effects}
-use Rattle.ring_session.specs.declared.answered.TicketAnswer.{TicketAnswer}
-use Rattle.ring_session.specs.declared.pending.Pending.{Pending}
-use Rattle.ring_session.specs.Pendings.{Tickets, answers_behind}
+use Rattle.ring_session.specs.declared.ticket_answer.TicketAnswer.{TicketAnswer}
+use Rattle.ring_session.specs.declared.pending_ticket.PendingTicket.{PendingTicket}
+use Rattle.ring_session.specs.TicketsState.{Tickets, answers_after_committed}
 use Rattle.ring_core_spec.specs.declared.out.Out.{Out}
 use Rattle.ring_log.specs.Logs.{Log, trim_after, committed_calls, committed_log, is_due_to_trim}
 use Rattle.ring_log.specs.Epochs.{Epoch, epochs_with_sends, epochs_with_trim}
 use Rattle.ring_log.specs.KnownLog.{KnownLog, IsKnownLog, known_log_of, retained_log}
 use Rattle.ring_log.proofs.CommittedOf.{epochs_with_sends-kept}
-use Rattle.ring_replication.specs.NodeSpec.{epochs_after, is_closed, table_at, snapshot_at, effects_at, snapshot_kept, is_restored, drops, newly_committed}
+use Rattle.ring_replication.specs.NodeSpec.{epochs_after, is_closed, table_after_places, snapshot_at, effects_at, snapshot_kept, is_restored, drops, newly_committed}
 use Rattle.ring_replication.specs.Replications.{HeldLog, Replication, MayRestore, replication_trimmed}
 use Rattle.ring_replica.specs.Replicas.{Replica, ReplicaGhostState, replica_view, IsIdle, IsCounted, log_before_step, newly_committed_calls, snapshot_if_due, ReplicaStepResult}
 use Rattle.ring_replica.specs.Replicas.{replica_doing, replica_step, is_table_held, table_held}
@@ -34,7 +34,7 @@ use Rattle.ring_replica.proofs.ReplicaSteps.{due_now, step-is}
 module _ {O A : Type 0} {object : Sequential O} {replication : Replication A} {table : Table O} {tickets : Tickets A} {leaving : Option (Log A)}
     {places first gone effects effects_in_step : ℕ} {stopped : Bool} {ghost_state : ReplicaGhostState A} {r : Replica A} {running : Option RingId} {outs : List (Out A)} {moved : Replication A}
     (m : IsMoved object replication table tickets leaving places first gone effects effects_in_step stopped ghost_state r running outs moved)
-    (due : List (Payload A)) (table' : Table O) (applied : table' ≡ table_at object (K m) (K m).committed) (restored : is_restored object (K m) ≡ true)
+    (due : List (Payload A)) (table' : Table O) (applied : table' ≡ table_after_places object (K m) (K m).committed) (restored : is_restored object (K m) ≡ true)
     {effects_in_step' : ℕ} (counted : effects_in_step' ≡ effects_at object (K m) (K m).committed) where
   abbrev k : KnownLog A
   k = K m
@@ -106,7 +106,7 @@ module _ {O A : Type 0} {object : Sequential O} {replication : Replication A} {t
           (subst (λ y. IsIdle (K0 m) y moved.held None) (sym after-is) (idle-now (may m)));
       runs = λ _. record {
         consistent = m.consistent;
-        applied = applied ∙ ap (λ (y : KnownLog A). table_at object y y.committed) (sym after-is);
+        applied = applied ∙ ap (λ (y : KnownLog A). table_after_places object y y.committed) (sym after-is);
         snapshot = subst (λ (y : KnownLog A). 1 ≤ y.trimmed → moved.held.snapshot ≡ snapshot_kept object y) (sym after-is) snapshot-now;
         restored = ap (λ (y : KnownLog A). is_restored object y) after-is ∙ restored;
       };
@@ -162,7 +162,7 @@ module _ {O A : Type 0} {object : Sequential O} {replication : Replication A} {t
               );
           runs = λ _. record {
             consistent = m.consistent;
-            applied = applied ∙ ap (λ (y : KnownLog A). table_at object y y.committed) (sym trimmed-is);
+            applied = applied ∙ ap (λ (y : KnownLog A). table_after_places object y y.committed) (sym trimmed-is);
             snapshot = λ low. sym (ap (snapshot_kept object) trimmed-is
                 ∙ snapshot-dropped object k (subst IsKnownLog (now-is m) (steady-known m.steady)) more);
             restored = ap (λ (y : KnownLog A). is_restored object y) trimmed-is ∙ restored;
@@ -280,17 +280,17 @@ not-ripe object b log table e =
 -- ---- the effect of the places that a step commits
 
 -- the effect, given the stored log and the sessions before
-pub record Carries {O A : Type 0} (object : Sequential O) (held : HeldLog A) (table table' : Table O) (pending : List (Pending A)) (first effects : ℕ)
+pub record Carries {O A : Type 0} (object : Sequential O) (held : HeldLog A) (table table' : Table O) (pending : List (PendingTicket A)) (first effects : ℕ)
     (answers : List (TicketAnswer A)) (calls : List (OneCall A)) (effects_in_step' : ℕ) : Type 0 where
   pub fits : is_table_held object held ≡ true
   pub applied : table' ≡ fold (table_next object) (table_held object held table) (newly_committed_calls first held.log)
-  pub given : answers ≡ answers_behind object (table_held object held table) pending [] (newly_committed_calls first held.log)
+  pub given : answers ≡ answers_after_committed object (table_held object held table) pending [] (newly_committed_calls first held.log)
   pub committed : calls ≡ newly_committed_calls first held.log
   pub counted : effects_in_step'
       ≡ min (2 ^ 64 - 1) ((if is_some held.before then table_effects (table_held object held table) else effects)
       + done_after object (table_held object held table) (newly_committed_calls first held.log))
 
-pub carries-as : {O A : Type 0} {object : Sequential O} {held held' : HeldLog A} {table table' : Table O} {pending : List (Pending A)} {first effects : ℕ}
+pub carries-as : {O A : Type 0} {object : Sequential O} {held held' : HeldLog A} {table table' : Table O} {pending : List (PendingTicket A)} {first effects : ℕ}
     {answers : List (TicketAnswer A)} {calls : List (OneCall A)} {effects_in_step' : ℕ}
     → held ≡ held' → Carries object held table table' pending first effects answers calls effects_in_step'
     → Carries object held' table table' pending first effects answers calls effects_in_step'

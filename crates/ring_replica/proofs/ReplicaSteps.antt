@@ -15,12 +15,12 @@ use Rattle.ring_core_spec.specs.declared.out.Out.{Out}
 use Rattle.ring_log.specs.Logs.{Log, committed_calls}
 use Rattle.ring_log.specs.Epochs.{Epoch}
 use Rattle.ring_log.specs.KnownLog.{KnownLog, IsKnownLog, known_log_of, known_log_length, retained_log, is_known_log_sound}
-use Rattle.ring_session.specs.declared.answered.TicketAnswer.{TicketAnswer}
-use Rattle.ring_session.specs.declared.pending.Pending.{Pending}
-use Rattle.ring_session.specs.Pendings.{Tickets, answers_behind, pending_from}
+use Rattle.ring_session.specs.declared.ticket_answer.TicketAnswer.{TicketAnswer}
+use Rattle.ring_session.specs.declared.pending_ticket.PendingTicket.{PendingTicket}
+use Rattle.ring_session.specs.TicketsState.{Tickets, answers_after_committed, pending_from}
 use Rattle.ring_session.specs.Tickets.{answers_after}
 use Rattle.ring_session.proofs.Pendings.{are-answers}
-use Rattle.ring_replication.specs.NodeSpec.{epochs_after, table_at, effects_at, snapshot_kept, is_restored, newly_committed, table_since}
+use Rattle.ring_replication.specs.NodeSpec.{epochs_after, table_after_places, effects_at, snapshot_kept, is_restored, newly_committed, table_since}
 use Rattle.ring_replication.specs.Replications.{Replication, StepContext, due_sends_by, reported_log, MayRestore, IsHeldLogContinued, HasSoundEpochs}
 use Rattle.ring_replica.specs.Replicas.{Replica, ReplicaStepResult, ReplicaGhostState, IsBetweenSteps, IsIdle, IsRunningReplica, IsReplica, IsCounted, replica_view, replica_known_log}
 use Rattle.ring_replica.specs.Replicas.{replica_stopped, log_before_step, newly_committed_calls, moment_of, restored_since, replica_settled, replica_step}
@@ -238,8 +238,8 @@ module _ {O A : Type 0} {object : Sequential O} {replication : Replication A} {t
   pub runs-was : IsRunningReplica object replication table
   runs-was = m.ready.counted.kept.runs m.ready.runs
 
-  table-was : table ≡ table_at object K0 K0.committed
-  table-was = runs-was.applied ∙ ap (λ (y : KnownLog A). table_at object y y.committed) was-is
+  table-was : table ≡ table_after_places object K0 K0.committed
+  table-was = runs-was.applied ∙ ap (λ (y : KnownLog A). table_after_places object y y.committed) was-is
 
   restored-was : is_restored object K0 ≡ true
   restored-was = ap (λ (y : KnownLog A). is_restored object y) (sym was-is) ∙ runs-was.restored
@@ -255,7 +255,7 @@ module _ {O A : Type 0} {object : Sequential O} {replication : Replication A} {t
   more-are = ap (λ n. newly_committed_calls n moved.held.log) first-is ∙ ap (newly_committed_calls K0.committed) log-is
 
   pub applied-is : {table' : Table O} → table' ≡ fold (table_next object) (table_held object moved.held table) (newly_committed_calls first moved.held.log)
-      → table' ≡ table_at object K K.committed
+      → table' ≡ table_after_places object K K.committed
   applied-is is =
       is ∙ ap (λ t. fold (table_next object) t (newly_committed_calls first moved.held.log)) sessions-are ∙ ap (fold (table_next object) (table_since object K0 K)) more-are
       ∙ table-done object replication.held moved.held K0 K known-was m.ready.before may
@@ -271,13 +271,13 @@ module _ {O A : Type 0} {object : Sequential O} {replication : Replication A} {t
       ∙ effects-done object replication.held moved.held K0 K known-was m.ready.before effects m.ready.counted.order may
 
   -- the answers
-  pub answers-are : {pending : List (Pending A)} {answers : List (TicketAnswer A)} → pending ≡ tickets.pending
-      → answers ≡ answers_behind object (table_held object moved.held table) pending [] (newly_committed_calls first moved.held.log)
+  pub answers-are : {pending : List (PendingTicket A)} {answers : List (TicketAnswer A)} → pending ≡ tickets.pending
+      → answers ≡ answers_after_committed object (table_held object moved.held table) pending [] (newly_committed_calls first moved.held.log)
       → answers ≡ answers_after object (table_since object K0 K) ghost_state.tickets ghost_state.done (newly_committed K0 K)
   answers-are waits is =
-      is ∙ ap (λ ps. answers_behind object (table_held object moved.held table) ps [] (newly_committed_calls first moved.held.log)) waits
-      ∙ ap (λ t. answers_behind object t tickets.pending [] (newly_committed_calls first moved.held.log)) sessions-are
-      ∙ ap (answers_behind object (table_since object K0 K) tickets.pending []) more-are
+      is ∙ ap (λ ps. answers_after_committed object (table_held object moved.held table) ps [] (newly_committed_calls first moved.held.log)) waits
+      ∙ ap (λ t. answers_after_committed object t tickets.pending [] (newly_committed_calls first moved.held.log)) sessions-are
+      ∙ ap (answers_after_committed object (table_since object K0 K) tickets.pending []) more-are
       ∙ are-answers object (table_since object K0 K) ghost_state.tickets ghost_state.done (newly_committed K0 K) ghost_state.answers tickets m.ready.counted.kept.answers
 
   -- ---- the result
@@ -315,7 +315,7 @@ module _ {O A : Type 0} {object : Sequential O} {replication : Replication A} {t
     pub step-is : replica_settled object true told outs (epochs_after ghost_state.epochs outs) due_now K ≡ replica_step object running r outs
     step-is = step-by true restored-now
 
-    pub due-are : {pending : List (Pending A)} {before due : List (Payload A)} → pending ≡ tickets.pending → before ≡ []
+    pub due-are : {pending : List (PendingTicket A)} {before due : List (Payload A)} → pending ≡ tickets.pending → before ≡ []
         → due ≡ before ++ due_sends_by (record {
           group = replication.group;
           me = replication.me;
@@ -327,7 +327,7 @@ module _ {O A : Type 0} {object : Sequential O} {replication : Replication A} {t
         }) replication.epochs outs
         → due ≡ due_now
     due-are {pending} waits none is =
-        let of : List (Pending A) → ℕ → ℕ → StepContext A = λ ps n g. record {
+        let of : List (PendingTicket A) → ℕ → ℕ → StepContext A = λ ps n g. record {
           group = replication.group;
           me = replication.me;
           running = running;
@@ -348,8 +348,8 @@ module _ {O A : Type 0} {object : Sequential O} {replication : Replication A} {t
     pub due-is : {due : List (Payload A)} → due ≡ due_now → due ≡ (replica_step object running r outs).due
     due-is is = is ∙ ap (λ (v : ReplicaStepResult A). v.due) step-is
 
-    pub answers-told : {pending : List (Pending A)} {answers : List (TicketAnswer A)} → pending ≡ tickets.pending
-        → answers ≡ answers_behind object (table_held object moved.held table) pending [] (newly_committed_calls first moved.held.log)
+    pub answers-told : {pending : List (PendingTicket A)} {answers : List (TicketAnswer A)} → pending ≡ tickets.pending
+        → answers ≡ answers_after_committed object (table_held object moved.held table) pending [] (newly_committed_calls first moved.held.log)
         → answers ≡ (replica_step object running r outs).answers
     answers-told waits is = answers-are waits is ∙ ap (λ (v : ReplicaStepResult A). v.answers) step-is
 

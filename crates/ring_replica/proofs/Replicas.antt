@@ -12,16 +12,16 @@ use Rattle.ring_object.specs.Operations.{Sequential}
 use Rattle.ring_payload.specs.declared.call.Call.{Call as OneCall}
 use Rattle.ring_session.specs.Table.{Table, opening}
 use Rattle.ring_log.specs.Logs.{Log, log_length, committed_calls}
-use Rattle.ring_log.specs.Epochs.{epochs_opening, epochs_with_sends}
+use Rattle.ring_log.specs.Epochs.{history_opening_of, epochs_with_sends}
 use Rattle.ring_log.specs.EpochHistories.{CompleteExchange}
-use Rattle.ring_log.specs.KnownLog.{KnownLog, IsKnownLog, known_log_opening, kept_by, known_log_of, known_log_length, dropped_by, retained_log}
+use Rattle.ring_log.specs.KnownLog.{KnownLog, IsKnownLog, known_log_opening, known_log_after_epoch, known_log_of, known_log_length, dropped_by, retained_log}
 use Rattle.ring_log.proofs.CommittedOf.{epochs_with_sends-kept}
-use Rattle.ring_session.specs.declared.answered.TicketAnswer.{TicketAnswer}
-use Rattle.ring_session.specs.RecentAnswers.{kept_answer}
-use Rattle.ring_session.specs.Pendings.{Tickets, no_tickets, is_full, with_ticket, with_answers, AreTickets, pending_from}
-use Rattle.ring_session.specs.Tickets.{unanswered}
+use Rattle.ring_session.specs.declared.ticket_answer.TicketAnswer.{TicketAnswer}
+use Rattle.ring_session.specs.RecentAnswers.{recent_answer_to}
+use Rattle.ring_session.specs.TicketsState.{Tickets, no_tickets, may_give_no_ticket, with_ticket, with_answers, AreTickets, pending_from}
+use Rattle.ring_session.specs.Tickets.{unanswered_tickets}
 use Rattle.ring_session.proofs.Pendings.{are-kept, are-given, are-full, are-replies}
-use Rattle.ring_replication.specs.NodeSpec.{table_at, effects_at, snapshot_kept, is_restored}
+use Rattle.ring_replication.specs.NodeSpec.{table_after_places, effects_at, snapshot_kept, is_restored}
 use Rattle.ring_replication.specs.Replications.{Replication, replication_opening, handed_if}
 use Rattle.ring_replica.specs.Replicas.{Replica, ReplicaGhostState, ghost_state_opening, ghost_state_after_step, ghost_state_after_ticket, IsBetweenSteps, replica_known_log, replica_committed, replica_reply}
 use Rattle.ring_replica.specs.Replicas.{replica_done, submit_refusal, current_log, log_before_step, newly_committed_calls, calls_leaving, leaving_of, replica_view}
@@ -43,14 +43,14 @@ none-more log =
 
 -- ---- the opening
 
-epochs_opening-kept : {A : Type 0} (group : Group) (me : ℕ) → known_log_of {A = A} group (epochs_opening me) ≡ known_log_opening
-epochs_opening-kept {A} group me =
-    ap (λ (o : Option (CompleteExchange A)). dropped_by 0 (kept_by (record { seq = 0; rep = me }) known_log_opening o o)) (complete_exchange-nothing group (only me))
+history_opening_of-kept : {A : Type 0} (group : Group) (me : ℕ) → known_log_of {A = A} group (history_opening_of me) ≡ known_log_opening
+history_opening_of-kept {A} group me =
+    ap (λ (o : Option (CompleteExchange A)). dropped_by 0 (known_log_after_epoch (record { seq = 0; rep = me }) known_log_opening o o)) (complete_exchange-nothing group (only me))
 
 pub history_opening-replica : {O A : Type 0} (object : Sequential O) (group : Group) (me : ℕ) (table : Table O) → table ≡ opening object.initial
     → IsReplica {A = A} object (replication_opening group me) table no_tickets None 0 0 0 false (ghost_state_opening me)
 history_opening-replica {O} {A} object group me table is =
-    let b = epochs_opening-kept {A = A} group me in
+    let b = history_opening_of-kept {A = A} group me in
     record {
       logged = ap (λ (k : KnownLog A). known_log_length k) (sym b);
       committed = ap (λ (k : KnownLog A). k.committed) (sym b);
@@ -61,7 +61,7 @@ history_opening-replica {O} {A} object group me table is =
       idle = λ _. inl (refl, refl);
       runs = λ _. record {
         consistent = refl;
-        applied = is ∙ ap (λ (k : KnownLog A). table_at object k k.committed) (sym b);
+        applied = is ∙ ap (λ (k : KnownLog A). table_after_places object k k.committed) (sym b);
         snapshot = λ low. absurd (let none = ap (λ (k : KnownLog A). k.trimmed) b in omega (arith, low, none));
         restored = ap (λ (k : KnownLog A). is_restored object k) b;
       };
@@ -103,22 +103,22 @@ module _ {O A : Type 0} {object : Sequential O} {replication : Replication A} {t
   abbrev Told : Replica A
   Told = replica_view replication leaving first stopped ghost_state
 
-  full-is : is_full tickets ≡ nat_le 64 (length (unanswered ghost_state.done ghost_state.tickets)) || nat_le max_number (length ghost_state.tickets)
+  full-is : may_give_no_ticket tickets ≡ nat_le 64 (length (unanswered_tickets ghost_state.done ghost_state.tickets)) || nat_le max_number (length ghost_state.tickets)
   full-is = are-full ghost_state.tickets ghost_state.done ghost_state.answers tickets k.answers
 
-  pub may-give : {r : Replica A} → Told ≡ r → stopped ≡ false → is_full tickets ≡ false → submit_refusal r ≡ None
+  pub may-give : {r : Replica A} → Told ≡ r → stopped ≡ false → may_give_no_ticket tickets ≡ false → submit_refusal r ≡ None
   may-give is s f =
       ap submit_refusal (sym is)
-      ∙ refusal-if stopped (nat_le 64 (length (unanswered ghost_state.done ghost_state.tickets))) (nat_le max_number (length ghost_state.tickets)) (is_full tickets) s full-is f
+      ∙ refusal-if stopped (nat_le 64 (length (unanswered_tickets ghost_state.done ghost_state.tickets))) (nat_le max_number (length ghost_state.tickets)) (may_give_no_ticket tickets) s full-is f
 
-  pub may-not : {r : Replica A} → Told ≡ r → stopped ≡ false → is_full tickets ≡ true → submit_refusal r ≡ Some PendingFull
+  pub may-not : {r : Replica A} → Told ≡ r → stopped ≡ false → may_give_no_ticket tickets ≡ true → submit_refusal r ≡ Some PendingFull
   may-not is s f =
       ap submit_refusal (sym is)
-      ∙ refusal-full stopped (nat_le 64 (length (unanswered ghost_state.done ghost_state.tickets))) (nat_le max_number (length ghost_state.tickets)) (is_full tickets) s full-is f
+      ∙ refusal-full stopped (nat_le 64 (length (unanswered_tickets ghost_state.done ghost_state.tickets))) (nat_le max_number (length ghost_state.tickets)) (may_give_no_ticket tickets) s full-is f
 
-  pub is-open : {r : Replica A} → Told ≡ r → submit_refusal r ≡ None → (stopped ≡ false) × (is_full tickets ≡ false)
+  pub is-open : {r : Replica A} → Told ≡ r → submit_refusal r ≡ None → (stopped ≡ false) × (may_give_no_ticket tickets ≡ false)
   is-open is n =
-      open-if stopped (nat_le 64 (length (unanswered ghost_state.done ghost_state.tickets))) (nat_le max_number (length ghost_state.tickets)) (is_full tickets) full-is
+      open-if stopped (nat_le 64 (length (unanswered_tickets ghost_state.done ghost_state.tickets))) (nat_le max_number (length ghost_state.tickets)) (may_give_no_ticket tickets) full-is
       (ap submit_refusal is ∙ n)
 
   pub given-replica : (c : OneCall A) (runs : Bool) {replication' : Replication A} {tickets' : Tickets A} {ghost_state' : ReplicaGhostState A}
@@ -141,7 +141,7 @@ module _ {O A : Type 0} {object : Sequential O} {replication : Replication A} {t
             (subst (λ (y : KnownLog A). IsIdle (known_log_of replication.group ghost_state.epochs) y replication.held leaving) (sym epochs_in_step) (k.idle s));
         runs = λ s. (let r = k.runs s in record {
           consistent = r.consistent;
-          applied = r.applied ∙ ap (λ (y : KnownLog A). table_at object y y.committed) (sym epochs_in_step);
+          applied = r.applied ∙ ap (λ (y : KnownLog A). table_after_places object y y.committed) (sym epochs_in_step);
           snapshot = subst (λ (y : KnownLog A). 1 ≤ y.trimmed → replication.held.snapshot ≡ snapshot_kept object y) (sym epochs_in_step) r.snapshot;
           restored = ap (λ (y : KnownLog A). is_restored object y) epochs_in_step ∙ r.restored;
         });
@@ -152,7 +152,7 @@ module _ {O A : Type 0} {object : Sequential O} {replication : Replication A} {t
 
   -- ---- the report
 
-  pub reply-is : {r : Replica A} → Told ≡ r → (ticket : ℕ) → kept_answer ticket tickets.kept ≡ replica_reply r ticket
+  pub reply-is : {r : Replica A} → Told ≡ r → (ticket : ℕ) → recent_answer_to ticket tickets.kept ≡ replica_reply r ticket
   reply-is is ticket = are-replies ghost_state.tickets ghost_state.done ghost_state.answers tickets ticket k.answers ∙ ap (λ (x : Replica A). replica_reply x ticket) is
 
   pub waiting-is : {r : Replica A} → Told ≡ r → length tickets.pending ≡ length (pending_from r.done 0 r.tickets)
@@ -268,8 +268,8 @@ pub history_opening-counted : {O A : Type 0} (object : Sequential O) (group : Gr
     → IsCounted object replication table tickets None 0 0 0 0 0 false ghost_state
 history_opening-counted {O} {A} object group me replication table tickets ghost_state ec e et ea =
     let k = history_opening-as object group me replication table tickets ghost_state ec e et ea in
-    let b = epochs_opening-kept {A = A} group me in
-    let none : 0 ≡ effects_at object (known_log_of {A = A} group (epochs_opening me)) (known_log_of {A = A} group (epochs_opening me)).committed =
+    let b = history_opening_of-kept {A = A} group me in
+    let none : 0 ≡ effects_at object (known_log_of {A = A} group (history_opening_of me)) (known_log_of {A = A} group (history_opening_of me)).committed =
     ap (λ (y : KnownLog A). effects_at object y y.committed) (sym b) in
     let group_is : replication.group ≡ group = ap (λ (x : Replication A). x.group) ec in
     record {

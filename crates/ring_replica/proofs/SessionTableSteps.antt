@@ -18,7 +18,7 @@ use Rattle.ring_session.specs.Snapshots.{restored_table}
 use Rattle.ring_session.specs.SessionAnswer.{is_done}
 use Rattle.ring_session.specs.Table.{Table, opening as table_opening, table_answer, table_next}
 use Rattle.ring_session.specs.TicketEffects.{done_after, table_effects}
-use Rattle.ring_replication.specs.NodeSpec.{table_or, table_before, table_at, effects_at, is_restored, table_since}
+use Rattle.ring_replication.specs.NodeSpec.{restored_table_or, table_before, table_after_places, effects_at, is_restored, table_since}
 use Rattle.ring_replication.specs.Replications.{HeldLog, IsKnownLogExtended, RestoresMore, MayRestore}
 use Rattle.ring_replica.specs.Replicas.{newly_committed_calls, is_table_held, table_held}
 use Rattle.ring_replica.proofs.SessionsUnchanged.{before-on, table-on}
@@ -64,17 +64,17 @@ module _ {O A : Type 0} (object : Sequential O) (old h : HeldLog A) (k now : Kno
   not-first r = ne_eqb now.from 0 (λ e. (let p = r.past in omega (arith, p, e)))
 
   -- the sessions to which the step's calls are applied
-  pub held-since : (table : Table O) → table ≡ table_at object k k.committed → MayRestore old h k now → table_held object h table ≡ table_since object k now
+  pub held-since : (table : Table O) → table ≡ table_after_places object k k.committed → MayRestore old h k now → table_held object h table ≡ table_since object k now
   held-since table was (inl g) =
-      ap (λ b. if is_some b then table_or object (restored_table object.restored h.snapshot) else table) (g.before ∙ none) ∙ was
-      ∙ sym (ap (λ n. if nat_lt k.trimmed n then table_before object now else table_at object k k.committed) g.known.trimmed
-      ∙ cond-false (nat_lt k.trimmed k.trimmed) (table_before object now) (table_at object k k.committed) (never-less k.trimmed))
+      ap (λ b. if is_some b then restored_table_or object (restored_table object.restored h.snapshot) else table) (g.before ∙ none) ∙ was
+      ∙ sym (ap (λ n. if nat_lt k.trimmed n then table_before object now else table_after_places object k k.committed) g.known.trimmed
+      ∙ cond-false (nat_lt k.trimmed k.trimmed) (table_before object now) (table_after_places object k k.committed) (never-less k.trimmed))
   held-since table was (inr r) =
-      ap (λ b. if b then table_or object (restored_table object.restored h.snapshot) else table) r.before
-      ∙ ap (λ bs. table_or object (restored_table object.restored bs)) r.snapshot
-      ∙ sym (cond-true (nat_lt k.trimmed now.trimmed) (table_before object now) (table_at object k k.committed)
+      ap (λ b. if b then restored_table_or object (restored_table object.restored h.snapshot) else table) r.before
+      ∙ ap (λ bs. restored_table_or object (restored_table object.restored bs)) r.snapshot
+      ∙ sym (cond-true (nat_lt k.trimmed now.trimmed) (table_before object now) (table_after_places object k k.committed)
       (lt-ltb k.trimmed now.trimmed (let l = r.trimmed in omega (arith, l)))
-      ∙ cond-false (now.from == 0) (table_opening object.initial) (table_or object (restored_table object.restored now.snapshot)) (not-first r))
+      ∙ cond-false (now.from == 0) (table_opening object.initial) (restored_table_or object (restored_table object.restored now.snapshot)) (not-first r))
 
   -- the restored bytes are a snapshot
   pub held-restored : is_restored object k ≡ true → MayRestore old h k now → is_table_held object h ≡ is_restored object now
@@ -94,14 +94,14 @@ module _ {O A : Type 0} (object : Sequential O) (old h : HeldLog A) (k now : Kno
 
   -- then all committed places are applied
   pub table-done : MayRestore old h k now
-      → fold (table_next object) (table_since object k now) (newly_committed_calls k.committed (retained_log now)) ≡ table_at object now now.committed
+      → fold (table_next object) (table_since object k now) (newly_committed_calls k.committed (retained_log now)) ≡ table_after_places object now now.committed
   table-done (inl g) =
       let f = now.from in
       let all = take (now.committed - f) now.calls in
       let few : k.committed - f ≤ now.committed - f = (let c = g.known.committed in omega (arith, c)) in
       let since : table_since object k now ≡ fold (table_next object) (table_before object now) (take (k.committed - f) all) =
-      ap (λ n. if nat_lt k.trimmed n then table_before object now else table_at object k k.committed) g.known.trimmed
-      ∙ cond-false (nat_lt k.trimmed k.trimmed) (table_before object now) (table_at object k k.committed) (never-less k.trimmed)
+      ap (λ n. if nat_lt k.trimmed n then table_before object now else table_after_places object k k.committed) g.known.trimmed
+      ∙ cond-false (nat_lt k.trimmed k.trimmed) (table_before object now) (table_after_places object k k.committed) (never-less k.trimmed)
       ∙ sym (table-on object k now g.known is k.committed (omega arith))
       ∙ ap (fold (table_next object) (table_before object now)) (sym (take-take (k.committed - f) (now.committed - f) now.calls few)) in
       ap (λ t. fold (table_next object) t (newly_committed_calls k.committed (retained_log now))) since
@@ -110,7 +110,7 @@ module _ {O A : Type 0} (object : Sequential O) (old h : HeldLog A) (k now : Kno
       ∙ ap (fold (table_next object) (table_before object now)) (take-append-drop (k.committed - f) all)
   table-done (inr r) =
       ap (λ t. fold (table_next object) t (newly_committed_calls k.committed (retained_log now)))
-      (cond-true (nat_lt k.trimmed now.trimmed) (table_before object now) (table_at object k k.committed)
+      (cond-true (nat_lt k.trimmed now.trimmed) (table_before object now) (table_after_places object k k.committed)
       (lt-ltb k.trimmed now.trimmed (let l = r.trimmed in omega (arith, l))))
       ∙ ap (fold (table_next object) (table_before object now)) (behind-restored h k now r)
 
@@ -125,8 +125,8 @@ module _ {O A : Type 0} (object : Sequential O) (old h : HeldLog A) (k now : Kno
       let before = table_before object now in
       let mid = fold (table_next object) before (take (k.committed - f) all) in
       let since : table_since object k now ≡ mid =
-      ap (λ n. if nat_lt k.trimmed n then before else table_at object k k.committed) g.known.trimmed
-      ∙ cond-false (nat_lt k.trimmed k.trimmed) before (table_at object k k.committed) (never-less k.trimmed)
+      ap (λ n. if nat_lt k.trimmed n then before else table_after_places object k k.committed) g.known.trimmed
+      ∙ cond-false (nat_lt k.trimmed k.trimmed) before (table_after_places object k k.committed) (never-less k.trimmed)
       ∙ sym (table-on object k now g.known is k.committed (omega arith))
       ∙ ap (fold (table_next object) before) (sym (take-take (k.committed - f) (now.committed - f) now.calls few)) in
       let own : take (k.committed - k.from) k.calls ≡ take (k.committed - f) all =
@@ -156,7 +156,7 @@ module _ {O A : Type 0} (object : Sequential O) (old h : HeldLog A) (k now : Kno
       ap (λ b. min (2 ^ 64 - 1) ((if b then table_effects (table_since object k now) else effects)
       + done_after object (table_since object k now) (newly_committed_calls k.committed (retained_log now)))) r.before
       ∙ ap (λ (t : Table O). min (2 ^ 64 - 1) (table_effects t + done_after object t (newly_committed_calls k.committed (retained_log now))))
-      (cond-true (nat_lt k.trimmed now.trimmed) (table_before object now) (table_at object k k.committed)
+      (cond-true (nat_lt k.trimmed now.trimmed) (table_before object now) (table_after_places object k k.committed)
       (lt-ltb k.trimmed now.trimmed (let l = r.trimmed in omega (arith, l))))
       ∙ ap (λ l. min (2 ^ 64 - 1) (table_effects (table_before object now) + done_after object (table_before object now) l)) (behind-restored h k now r)
 
@@ -175,7 +175,7 @@ module _ {O A : Type 0} (object : Sequential O) (h : HeldLog A) where
   kept-fits none = ap (λ b. b || is_some (restored_table object.restored h.snapshot)) (none-by h.before none)
 
   pub kept-table : (table : Table O) → is_some h.before ≡ false → table_held object h table ≡ table
-  kept-table table none = cond-false (is_some h.before) (table_or object (restored_table object.restored h.snapshot)) table none
+  kept-table table none = cond-false (is_some h.before) (restored_table_or object (restored_table object.restored h.snapshot)) table none
 
   fits-by : is_some h.before ≡ true → is_table_held object h ≡ is_some (restored_table object.restored h.snapshot)
   fits-by some = ap (λ b. b || is_some (restored_table object.restored h.snapshot)) (some-by h.before some)
@@ -188,8 +188,8 @@ module _ {O A : Type 0} (object : Sequential O) (h : HeldLog A) where
   pub restored-table : (old : Table O) (bytes : List ℕ) (table : Table O) → bytes ≡ h.snapshot → is_some h.before ≡ true
       → restored_table object.restored bytes ≡ Some table → table_held object h old ≡ table
   restored-table old bytes table same some e =
-      cond-true (is_some h.before) (table_or object (restored_table object.restored h.snapshot)) old some
-      ∙ ap (λ bs. table_or object (restored_table object.restored bs)) (sym same) ∙ ap (table_or object) e
+      cond-true (is_some h.before) (restored_table_or object (restored_table object.restored h.snapshot)) old some
+      ∙ ap (λ bs. restored_table_or object (restored_table object.restored bs)) (sym same) ∙ ap (restored_table_or object) e
 
   pub lost-fits : (bytes : List ℕ) → bytes ≡ h.snapshot → is_some h.before ≡ true → IsSnapshotRefusal (restored_table object.restored bytes) BadSnapshot
       → is_table_held object h ≡ false

@@ -9,16 +9,16 @@ use Rattle.ring_session.specs.Snapshots.{table_snapshot, restored_table}
 use Rattle.ring_session.specs.Table.{Table, opening as table_opening, table_next}
 use Rattle.ring_replication.specs.Replications.{IsKnownLogExtended}
 use Rattle.ring_replication.proofs.IsKnownLogExtended.{take-fewer}
-use Rattle.ring_replication.specs.NodeSpec.{table_or, table_before, table_at, snapshot_at, snapshot_kept}
+use Rattle.ring_replication.specs.NodeSpec.{restored_table_or, table_before, table_after_places, snapshot_at, snapshot_kept}
 
 module _ {O A : Type 0} (object : Sequential O) (k now : KnownLog A) (on : IsKnownLogExtended k now) (is : IsKnownLog k) where
   pub before-on : table_before object now ≡ table_before object k
   before-on =
-      ap (λ n. if n == 0 then table_opening object.initial else table_or object (restored_table object.restored now.snapshot)) on.from
-      ∙ ap (λ bs. if k.from == 0 then table_opening object.initial else table_or object (restored_table object.restored bs)) on.bytes
+      ap (λ n. if n == 0 then table_opening object.initial else restored_table_or object (restored_table object.restored now.snapshot)) on.from
+      ∙ ap (λ bs. if k.from == 0 then table_opening object.initial else restored_table_or object (restored_table object.restored bs)) on.bytes
 
   -- the sessions after committed places
-  pub table-on : (places : ℕ) → places ≤ k.committed → table_at object now places ≡ table_at object k places
+  pub table-on : (places : ℕ) → places ≤ k.committed → table_after_places object now places ≡ table_after_places object k places
   table-on places le =
       ap (λ t. fold (table_next object) t (take (places - now.from) now.calls)) before-on
       ∙ ap (λ n. fold (table_next object) (table_before object k) (take (places - n) now.calls)) on.from

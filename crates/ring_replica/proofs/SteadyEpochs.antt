@@ -8,16 +8,16 @@ use Rattle.ring_base.specs.declared.ring_id.RingId.{RingId}
 use Rattle.ring_object.specs.Operations.{Sequential}
 use Rattle.ring_core_spec.specs.declared.out.Out.{Out}
 use Rattle.ring_core_spec.specs.declared.out.Out.TheVariants.{Send, Agreed, Safe, Trans, Rest, Regular}
-use Rattle.ring_log.specs.KnownLog.{KnownLog, IsKnownLog, kept_by, known_log_of, retained_log, is_known_log_sound}
-use Rattle.ring_log.specs.EpochHistories.{complete_exchange, upto}
+use Rattle.ring_log.specs.KnownLog.{KnownLog, IsKnownLog, known_log_after_epoch, known_log_of, retained_log, is_known_log_sound}
+use Rattle.ring_log.specs.EpochHistories.{complete_exchange, messages_upto}
 use Rattle.ring_log.specs.Epochs.{Epoch, epochs_with_sends, epochs_with_trim}
 use Rattle.ring_payload.specs.declared.content.Payload.{Payload}
 use Rattle.ring_replication.proofs.Known.{known-epoch}
 use Rattle.ring_replication.specs.NodeSpec.{epochs_after_event, epochs_after, snapshot_at, snapshot_kept}
-use Rattle.ring_replication.specs.declared.reach.LogWatermark.{LogWatermark}
+use Rattle.ring_replication.specs.declared.log_watermark.LogWatermark.{LogWatermark}
 use Rattle.ring_replication.specs.declared.delivery_context.DeliveryContext.{DeliveryContext}
-use Rattle.ring_replication.specs.declared.stage.ExchangeStage.{ExchangeStage}
-use Rattle.ring_replication.specs.Replications.{HeldLog, StepContext, bytes_at, stage_in, watermarks_from, behind, rises_at, IsKnownLogExtended, MayRestore, IsReplicationKept, HasSoundEpochs}
+use Rattle.ring_replication.specs.declared.exchange_stage.ExchangeStage.{ExchangeStage}
+use Rattle.ring_replication.specs.Replications.{HeldLog, StepContext, bytes_at, stage_in, watermarks_from, messages_after, rises_at, IsKnownLogExtended, MayRestore, IsReplicationKept, HasSoundEpochs}
 use Rattle.ring_replication.proofs.ReplicationSteps.{kept-epochs_with_message, sound-epochs_with_message, kept-epochs_with_mark, kept-enters, kept-epochs_with_sends}
 use Rattle.ring_replication.proofs.KnownLogSound.{epoch-parts, sound-epochs_after_event}
 use Rattle.ring_replication.proofs.IsKnownLogExtended.{known-self, known-trans}
@@ -47,7 +47,7 @@ abbrev held_as : {A : Type 0} → KnownLog A → HeldLog A
 held_as k = record { log = retained_log k; before = None; snapshot = k.snapshot }
 
 abbrev reaches_as : {A : Type 0} → Group → Epoch A → List (Epoch A) → List LogWatermark
-reaches_as group s older = watermarks_from group s.members s.ring (known_log_of group older) (upto s.mark s.heard) (behind s.mark s.heard)
+reaches_as group s older = watermarks_from group s.members s.ring (known_log_of group older) (messages_upto s.mark s.heard) (messages_after s.mark s.heard)
 
 replication-of : {A : Type 0} {group : Group} {epochs : List (Epoch A)} (k : HasSoundEpochs group epochs)
     → IsReplicationKept group epochs (held_as (known_log_of group epochs)) k.epoch.ring (stage_in group k.epoch.members k.epoch.heard) k.epoch.mark
@@ -145,8 +145,8 @@ kept-dropped {A} group epochs k =
     let older = k.older in
     let known = known_log_of group older in
     let o = complete_exchange group s.members s.heard in
-    let p = complete_exchange group s.members (upto s.mark s.heard) in
-    let base = kept_by s.ring known o p in
+    let p = complete_exchange group s.members (messages_upto s.mark s.heard) in
+    let base = known_log_after_epoch s.ring known o p in
     let is = subst (λ l. IsKnownLog (known_log_of group l)) k.parts (steady-known k) in
     let most : max base.committed base.trimmed ≡ base.committed = (let h = is.high in omega (arith, h)) in
     ap (λ l. known_log_of group (epochs_with_trim (known_log_of group l).committed l)) k.parts

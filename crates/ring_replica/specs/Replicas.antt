@@ -19,13 +19,13 @@ use Rattle.ring_core_spec.specs.declared.out.Out.{Out}
 use Rattle.ring_payload.specs.Limits.{max_snapshot}
 use Rattle.ring_session.specs.Snapshots.{table_snapshot, restored_table}
 use Rattle.ring_log.specs.Logs.{Log, committed_calls, is_due_to_trim}
-use Rattle.ring_log.specs.Epochs.{Epoch, epochs_opening, epochs_with_sends, epochs_with_trim}
+use Rattle.ring_log.specs.Epochs.{Epoch, history_opening_of, epochs_with_sends, epochs_with_trim}
 use Rattle.ring_log.specs.KnownLog.{KnownLog, IsKnownLog, known_log_of, known_log_length, retained_log, is_known_log_sound}
-use Rattle.ring_session.specs.declared.answered.TicketAnswer.{TicketAnswer}
-use Rattle.ring_session.specs.Pendings.{Tickets, AreTickets, pending_from}
-use Rattle.ring_session.specs.Tickets.{TicketCall, unanswered, answers_after, kept_answers, answer_to}
+use Rattle.ring_session.specs.declared.ticket_answer.TicketAnswer.{TicketAnswer}
+use Rattle.ring_session.specs.TicketsState.{Tickets, AreTickets, pending_from}
+use Rattle.ring_session.specs.Tickets.{TicketCall, unanswered_tickets, answers_after, kept_answers, ticket_answer_in}
 use Rattle.ring_replication.specs.Replications.{HeldLog, Replication, StepContext, is_running, handed_if, due_sends_by}
-use Rattle.ring_replication.specs.NodeSpec.{epochs_after, Node, node_stopped, is_closed, table_or, table_at, effects_at, snapshot_kept, is_restored}
+use Rattle.ring_replication.specs.NodeSpec.{epochs_after, Node, node_stopped, is_closed, restored_table_or, table_after_places, effects_at, snapshot_kept, is_restored}
 use Rattle.ring_replication.specs.NodeSpec.{send_of, handed_over, NodeStepResult, empty_step, drops, newly_committed, table_since}
 
 -- a replica, as contracts see it
@@ -54,7 +54,7 @@ pub record ReplicaGhostState (A : Type 0) : Type 0 where
 
 -- the ghost state of processor `me` at the opening
 abbrev pub ghost_state_opening : {A : Type 0} → ℕ → ReplicaGhostState A
-ghost_state_opening me = record { epochs = epochs_opening me; tickets = []; done = []; answers = [] }
+ghost_state_opening me = record { epochs = history_opening_of me; tickets = []; done = []; answers = [] }
 
 -- the ghost state after a finished step, which did these calls and gave these answers
 abbrev pub ghost_state_after_step : {A : Type 0} → ReplicaGhostState A → List (Epoch A) → List (OneCall A) → List (TicketAnswer A) → ReplicaGhostState A
@@ -68,7 +68,7 @@ ghost_state_after_ticket ghost_state c runs =
 -- processor `me` of the group at the opening
 abbrev pub replica_opening : {A : Type 0} → Group → ℕ → Replica A
 replica_opening group me =
-    record { group = group; me = me; epochs = epochs_opening me; epochs_in_step = epochs_opening me; tickets = []; done = []; answers = []; doing = []; leaving = []; stopped = false }
+    record { group = group; me = me; epochs = history_opening_of me; epochs_in_step = history_opening_of me; tickets = []; done = []; answers = []; doing = []; leaving = []; stopped = false }
 
 -- all steps are finished
 pub record IsBetweenSteps {A : Type 0} (r : Replica A) : Type 0 where
@@ -98,7 +98,7 @@ replica_stopped r = record r { epochs_in_step = r.epochs; doing = []; leaving = 
 
 -- the answer to a ticket, if it is one of the last 64 answered
 abbrev pub replica_reply : {A : Type 0} → Replica A → ℕ → Option Answer
-replica_reply r ticket = answer_to ticket (kept_answers r.answers)
+replica_reply r ticket = ticket_answer_in ticket (kept_answers r.answers)
 
 -- A submit
 
@@ -106,7 +106,7 @@ replica_reply r ticket = answer_to ticket (kept_answers r.answers)
 abbrev pub submit_refusal : {A : Type 0} → Replica A → Option Fault
 submit_refusal r =
     if r.stopped then Some Stopped
-    else if nat_le 64 (length (unanswered r.done r.tickets)) then Some PendingFull
+    else if nat_le 64 (length (unanswered_tickets r.done r.tickets)) then Some PendingFull
     else if nat_le max_number (length r.tickets) then Some PendingFull
     else None
 
@@ -247,8 +247,8 @@ node_unless false n core r =
     }
 
 -- the step of a node, by whether its replica stopped
-abbrev pub node_by : {A : Type 0} → Node A → Core A → ReplicaStepResult A → NodeStepResult A
-node_by n core r = node_unless r.replica.stopped n core r
+abbrev pub node_of_core_and_replica : {A : Type 0} → Node A → Core A → ReplicaStepResult A → NodeStepResult A
+node_of_core_and_replica n core r = node_unless r.replica.stopped n core r
 
 -- a node after a submit, given its replica after it
 abbrev pub node_with_ticket : {A : Type 0} → Node A → OneCall A → Replica A → Node A
@@ -257,9 +257,9 @@ node_with_ticket n c r = record n { core = handed_over n.core (due_by_call (runn
 -- The values that the code stores
 
 -- the epochs up to the unfinished step; of a stopped replica, up to the last finished one
-abbrev pub ahead_of : {A : Type 0} → Replication A → Bool → ReplicaGhostState A → List (Epoch A)
-ahead_of replication true ghost_state = ghost_state.epochs
-ahead_of replication false ghost_state = replication.epochs
+abbrev pub epochs_in_step_of : {A : Type 0} → Replication A → Bool → ReplicaGhostState A → List (Epoch A)
+epochs_in_step_of replication true ghost_state = ghost_state.epochs
+epochs_in_step_of replication false ghost_state = replication.epochs
 
 -- the log that has the places committed now, those that this step drops included
 abbrev pub current_log : {A : Type 0} → HeldLog A → Option (Log A) → Log A
@@ -279,7 +279,7 @@ is_table_held object held = is_none held.before || is_some (restored_table objec
 
 -- the session table: the one restored in this step, if any, otherwise the one given
 abbrev pub table_held : {O A : Type 0} → Sequential O → HeldLog A → Table O → Table O
-table_held object held table = if is_some held.before then table_or object (restored_table object.restored held.snapshot) else table
+table_held object held table = if is_some held.before then restored_table_or object (restored_table object.restored held.snapshot) else table
 
 -- the snapshot of a log's committed places, given the session table after them, if they are due to be dropped
 abbrev pub snapshot_if_due : {O A : Type 0} → Sequential O → Bool → Log A → Table O → Option (List ℕ)
@@ -288,9 +288,9 @@ snapshot_if_due object closed log table =
     if closed && is_due_to_trim log && nat_le (length bytes) max_snapshot then Some bytes else None
 
 -- the calls that the unfinished step commits; none of a stopped replica
-abbrev pub doing_of : {A : Type 0} → Replication A → Option (Log A) → ℕ → Bool → List (OneCall A)
-doing_of replication leaving first true = []
-doing_of replication leaving first false = newly_committed_calls first (current_log replication.held leaving)
+abbrev pub unfinished_calls_of : {A : Type 0} → Replication A → Option (Log A) → ℕ → Bool → List (OneCall A)
+unfinished_calls_of replication leaving first true = []
+unfinished_calls_of replication leaving first false = newly_committed_calls first (current_log replication.held leaving)
 
 -- the calls of the log of the places to be dropped, if there is one
 abbrev pub calls_leaving : {A : Type 0} → Option (Log A) → List (OneCall A)
@@ -310,11 +310,11 @@ replica_view replication leaving first stopped ghost_state =
       group = replication.group;
       me = replication.me;
       epochs = ghost_state.epochs;
-      epochs_in_step = ahead_of replication stopped ghost_state;
+      epochs_in_step = epochs_in_step_of replication stopped ghost_state;
       tickets = ghost_state.tickets;
       done = ghost_state.done;
       answers = ghost_state.answers;
-      doing = doing_of replication leaving first stopped;
+      doing = unfinished_calls_of replication leaving first stopped;
       leaving = leaving_of leaving stopped;
       stopped = stopped;
     }
@@ -323,7 +323,7 @@ replica_view replication leaving first stopped ghost_state =
 -- snapshot is that of the dropped places, and the restored bytes are a snapshot
 pub record IsRunningReplica {O A : Type 0} (object : Sequential O) (replication : Replication A) (table : Table O) : Type 0 where
   pub consistent : replication.consistent ≡ true
-  pub applied : table ≡ table_at object (known_log_of replication.group replication.epochs) (known_log_of replication.group replication.epochs).committed
+  pub applied : table ≡ table_after_places object (known_log_of replication.group replication.epochs) (known_log_of replication.group replication.epochs).committed
   pub snapshot : 1 ≤ (known_log_of replication.group replication.epochs).trimmed → replication.held.snapshot ≡ snapshot_kept object (known_log_of replication.group replication.epochs)
   pub restored : is_restored object (known_log_of replication.group replication.epochs) ≡ true
 

@@ -6,15 +6,15 @@
 //! Rules: The replicated log 8 to 15, 18 and 20
 #![tactic(auto)]
 
-mod given;
-mod history;
-mod laws;
 mod mark_laws;
 mod replica;
+mod replica_history;
+mod replica_laws;
+mod replica_output;
 
-pub use given::ReplicaOutput;
-pub use laws::replica_law;
-pub use mark_laws::marks_law;
+pub use mark_laws::epoch_safe_marks_law;
 pub use replica::Replica;
+pub use replica_laws::replica_law;
+pub use replica_output::ReplicaOutput;
 pub use ring_replication::{HeldLog, Input, Replication};
 pub use ring_session::{Answer, Ticket, TicketAnswer, copy_of};

@@ -8,7 +8,7 @@ ghost use Rattle.ring_core_spec.specs.declared.input.Input.{Input};
 ghost use Rattle.ring_core_spec.specs.State.{Core, opening};
 ghost use Rattle.ring_core_spec.specs.Giving.{may_install};
 ghost use Rattle.ring_core_spec.specs.Stepping.{ring_step};
-ghost use Rattle.ring_log.specs.Epochs.{Epoch, epochs_opening, epochs_with_sends};
+ghost use Rattle.ring_log.specs.Epochs.{Epoch, history_opening_of, epochs_with_sends};
 ghost use Rattle.ring_replication.specs.NodeSpec.{epochs_after, is_stopped, handed_over};
 ghost use Rattle.ring_replication.specs.Replications.{rises};
 ghost use Rattle.ring_replica.specs.Marks.{IsMarked};
@@ -22,8 +22,8 @@ use std::alloc::Allocator;
 /// over change neither its state nor its ring.
 ///
 /// Rules: Outputs 4 and 9; The replicated log 1
-pub fn marks_law<A: Allocator + Copy>()
-    ensures opening { (total me : ℕ) → IsMarked {A = A} (opening total me) (epochs_opening me) }
+pub fn epoch_safe_marks_law<A: Allocator + Copy>()
+    ensures opening { (total me : ℕ) → IsMarked {A = A} (opening total me) (history_opening_of me) }
     ensures rises { (c : Core A) (epochs : List (Epoch A)) (input : Input A) → IsMarked c epochs → rises epochs (ring_step c input).outs ≡ true }
     ensures step { (c : Core A) (epochs : List (Epoch A)) (input : Input A) →
         IsMarked c epochs → IsMarked (ring_step c input).core (epochs_after epochs (ring_step c input).outs) }

@@ -6,7 +6,7 @@ ghost use Rattle.std.specs.Prelude.{◌≡◌, ◌+◌, ◌-◌, ◌^◌, [], tr
 ghost use Rattle.std.specs.Prelude.{IfSome, OnOk, OnErr, Some, None};
 ghost use Rattle.ring_base.specs.declared.fault.Fault.TheVariants.{Memory};
 ghost use Rattle.ring_session.specs.Table.{table_next};
-ghost use Rattle.ring_session.specs.Pendings.{answers_behind, pending_from};
+ghost use Rattle.ring_session.specs.TicketsState.{answers_after_committed, pending_from};
 ghost use Rattle.ring_session.specs.TicketEffects.{done_after, table_effects};
 ghost use Rattle.ring_log.specs.KnownLog.{retained_log};
 ghost use Rattle.ring_log.specs.Logs.{committed_log, is_due_to_trim};
@@ -17,15 +17,17 @@ ghost use Rattle.ring_replica.specs.Replicas.{replica_stopped, replica_reply, su
 ghost use Rattle.ring_replica.specs.Replicas.{calls_leaving, newly_committed_calls, current_log, log_before_step, is_table_held, table_held, snapshot_if_due};
 ghost use Rattle.ring_replica.specs.Replicas.{replica_step, replica_done, IsStepIdle};
 
-use crate::given::ReplicaOutput;
-use crate::history::{ReplicaHistory, done, given, history_opening};
+use crate::replica_history::{
+    ReplicaHistory, history_after_step, history_after_ticket, history_opening,
+};
+use crate::replica_output::ReplicaOutput;
 use ring_base::{Fault, Fixed, Ghost, Proc, RingId, pair_result};
 use ring_core_spec::Out;
 use ring_log::{Log, Snapshot};
 use ring_object::Object;
 use ring_payload::{Call, MAX_SNAPSHOT};
 use ring_replication::{HeldLog, Replication};
-use ring_session::{Answer, Pending, Sessions, Ticket, TicketAnswer, Tickets, answers_of};
+use ring_session::{Answer, PendingTicket, Sessions, Ticket, TicketAnswer, Tickets, answers_of};
 use std::alloc::{AllocError, Allocator};
 use std::marker::Model;
 use std::mem;
@@ -33,8 +35,8 @@ use std::mem;
 /// All of a node except its core: its replicated log, its tickets, and its sessions with their object.
 ///
 /// A step has two parts. `step` takes the outputs of the core and returns the payloads to be handed to the core. Once
-/// these have been handed over, `finish` ends the step. Until then the replica's reports show its state from before the
-/// step. All memory is allocated in the first part, even that for dropping committed places.
+/// these have been handed over, `end_replica_step` ends the step. Until then the replica's reports show its state from
+/// before the step. All memory is allocated in the first part, even that for dropping committed places.
 ///
 /// Contracts see the node's epochs, its tickets, the calls that it did and the answers that it gave.
 ///
@@ -46,9 +48,9 @@ pub struct Replica<O: Object> {
     sessions: Sessions<O>,
     tickets: Tickets<O::Alloc>,
     /// The log of the places that the unfinished step drops, or `None` if it drops none.
-    leaving: Option<Log<O::Alloc>>,
+    log_being_dropped: Option<Log<O::Alloc>>,
     /// The log's length, committed length and trimmed length at the end of the last finished step.
-    places: u64,
+    log_len_at_step: u64,
     committed: u64,
     trimmed: u64,
     /// The number of committed calls that took effect: by the end of the last finished step, and by that of the
@@ -64,9 +66,9 @@ impl<O: Object> Model for Replica<O> {
 
     ghost Value = { ReplicaValue O.Alloc };
 
-    ghost view = { λ r. replica_view r.replication r.leaving r.committed r.stopped r.history.value };
+    ghost view = { λ r. replica_view r.replication r.log_being_dropped r.committed r.stopped r.history.value };
 
-    ghost invariant = { λ r. IsCounted O.sequential r.replication r.sessions r.tickets r.leaving r.places r.committed r.trimmed
+    ghost invariant = { λ r. IsCounted O.sequential r.replication r.sessions r.tickets r.log_being_dropped r.log_len_at_step r.committed r.trimmed
         r.effects r.effects_in_step r.stopped r.history.value };
 }
 
@@ -86,8 +88,8 @@ impl<O: Object> Replica<O> {
             tickets: Tickets::new(alloc)?,
             sessions: Sessions::new(alloc)?,
             replication: Replication::new(alloc, fixed, me),
-            leaving: None,
-            places: 0,
+            log_being_dropped: None,
+            log_len_at_step: 0,
             committed: 0,
             trimmed: 0,
             effects: 0,
@@ -109,16 +111,16 @@ impl<O: Object> Replica<O> {
         ensures refused { IfErr result (λ fault. fault ≡ Memory) }
     {
         let history = self.history.clone()?;
-        let (tickets, leaving) = copy_tickets(&self.tickets, &self.leaving)?;
+        let (tickets, log_being_dropped) = copy_tickets(&self.tickets, &self.log_being_dropped)?;
         let (replication, sessions) = copy_replication(&self.replication, &self.sessions)?;
         Ok(Replica {
             alloc: self.alloc,
             history,
-            leaving,
+            log_being_dropped,
             tickets,
             replication,
             sessions,
-            places: self.places,
+            log_len_at_step: self.log_len_at_step,
             committed: self.committed,
             trimmed: self.trimmed,
             effects: self.effects,
@@ -135,7 +137,7 @@ impl<O: Object> Replica<O> {
     /// been given.
     ///
     /// Rules: The replicated log 13
-    pub fn check(&self) -> Result<(), Fault>
+    pub fn check_ticket_available(&self) -> Result<(), Fault>
         ensures ok { OnOk result (submit_refusal self.now ≡ None) }
         ensures err { IfErr result (λ fault. submit_refusal self.now ≡ Some fault) }
     {
@@ -156,28 +158,28 @@ impl<O: Object> Replica<O> {
         requires runs { self.now.stopped ≡ false }
         ensures { result ≡ has_adopted_running running.now self.now }
     {
-        is_running(running, self.replication.held().log().last_primary())
+        is_running_ring(running, self.replication.stored_log().log().last_primary())
     }
 
     /// Gives a submitted call the next ticket and returns it.
     ///
     /// Tickets count from 0.
     ///
-    /// `check` must have returned Ok, and the replica must be between two steps. `running` is as for
+    /// `check_ticket_available` must have returned Ok, and the replica must be between two steps. `running` is as for
     /// [`has_adopted`](Replica::has_adopted). If the running ring is adopted, the caller must hand the call to the
     /// core; the replica records that it does. Does not allocate.
     ///
     /// Rules: The replicated log 10 and 13
-    pub fn give(&mut self, running: &Option<RingId>, call: Call<O::Alloc>) -> Ticket
+    pub fn give_ticket(&mut self, running: &Option<RingId>, call: Call<O::Alloc>) -> Ticket
         requires done { IsBetweenSteps self.old }
         requires open { submit_refusal self.old ≡ None }
         ensures ticket { result ≡ length self.old.tickets }
         ensures replica { self.new ≡ replica_with_ticket running.now self.old call }
     {
         let runs = self.has_adopted(running);
-        self.history = given(&self.history, &call, runs);
+        self.history = history_after_ticket(&self.history, &call, runs);
         self.replication.record_call(&call, runs);
-        self.tickets.give(call)
+        self.tickets.give_ticket(call)
     }
 
     /// Returns whether the replica's step may be skipped after a core's step without outputs, since it would change
@@ -194,12 +196,12 @@ impl<O: Object> Replica<O> {
         ensures is_step_idle { result ≡ true → IsStepIdle O.sequential self.now }
         ensures steady { HasSoundEpochs self.now.group self.now.epochs }
     {
-        !self.replication.held().log().is_due_to_trim()
+        !self.replication.stored_log().log().is_due_to_trim()
     }
 
     /// Applies the outputs of a core's step and returns the replica's output.
     ///
-    /// `finish` must follow and ends the step.
+    /// `end_replica_step` must follow and ends the step.
     ///
     /// `running` is the ring in which the core is Operational after its step. The replica must not have stopped, and
     /// must be between two steps. The replica stops, with an empty output, if a base may not be adopted, its bytes
@@ -217,17 +219,17 @@ impl<O: Object> Replica<O> {
         requires runs { self.old.stopped ≡ false }
         requires rises { rises self.old.epochs outs.now ≡ true }
         ensures ok { OnOk result (self.new ≡ (replica_step O.sequential running.now self.old outs.now).replica) }
-        ensures due { IfOk result (λ given. given.due.items ≡ (replica_step O.sequential running.now self.old outs.now).due) }
-        ensures answers { IfOk result (λ given. given.answers.items ≡ (replica_step O.sequential running.now self.old outs.now).answers) }
-        ensures committed { IfOk result (λ given. given.committed.items ≡ (replica_step O.sequential running.now self.old outs.now).replica.doing) }
-        ensures restored { IfOk result (λ given. given.restored ≡ (replica_step O.sequential running.now self.old outs.now).restored) }
+        ensures due { IfOk result (λ replica_output. replica_output.due.items ≡ (replica_step O.sequential running.now self.old outs.now).due) }
+        ensures answers { IfOk result (λ replica_output. replica_output.answers.items ≡ (replica_step O.sequential running.now self.old outs.now).answers) }
+        ensures committed { IfOk result (λ replica_output. replica_output.committed.items ≡ (replica_step O.sequential running.now self.old outs.now).replica.doing) }
+        ensures restored { IfOk result (λ replica_output. replica_output.restored ≡ (replica_step O.sequential running.now self.old outs.now).restored) }
         ensures steady { OnOk result (HasSoundEpochs self.old.group self.old.epochs) }
         ensures err { OnErr result (self.new ≡ replica_stopped self.old) }
         ensures refused { IfErr result (λ fault. fault ≡ Memory) }
     {
-        let mut given = ReplicaOutput::new(self.alloc);
-        self.step_into(running, outs, &mut given)?;
-        Ok(given)
+        let mut replica_output = ReplicaOutput::new(self.alloc);
+        self.step_into(running, outs, &mut replica_output)?;
+        Ok(replica_output)
     }
 
     /// Does the same as `step`, into an empty output.
@@ -235,20 +237,20 @@ impl<O: Object> Replica<O> {
         &mut self,
         running: &Option<RingId>,
         outs: &[Out<O::Alloc>],
-        given: &mut ReplicaOutput<O::Alloc>,
+        replica_output: &mut ReplicaOutput<O::Alloc>,
     ) -> Result<(), Fault>
         requires done { IsBetweenSteps self.old }
         requires runs { self.old.stopped ≡ false }
         requires rises { rises self.old.epochs outs.now ≡ true }
-        requires no_due { given.old.due.items ≡ [] }
-        requires no_answers { given.old.answers.items ≡ [] }
-        requires none_committed { given.old.committed.items ≡ [] }
-        requires none_restored { given.old.restored ≡ None }
+        requires no_due { replica_output.old.due.items ≡ [] }
+        requires no_answers { replica_output.old.answers.items ≡ [] }
+        requires none_committed { replica_output.old.committed.items ≡ [] }
+        requires none_restored { replica_output.old.restored ≡ None }
         ensures ok { OnOk result (self.new ≡ (replica_step O.sequential running.now self.old outs.now).replica) }
-        ensures due { OnOk result (given.new.due.items ≡ (replica_step O.sequential running.now self.old outs.now).due) }
-        ensures answers { OnOk result (given.new.answers.items ≡ (replica_step O.sequential running.now self.old outs.now).answers) }
-        ensures committed { OnOk result (given.new.committed.items ≡ (replica_step O.sequential running.now self.old outs.now).replica.doing) }
-        ensures restored { OnOk result (given.new.restored ≡ (replica_step O.sequential running.now self.old outs.now).restored) }
+        ensures due { OnOk result (replica_output.new.due.items ≡ (replica_step O.sequential running.now self.old outs.now).due) }
+        ensures answers { OnOk result (replica_output.new.answers.items ≡ (replica_step O.sequential running.now self.old outs.now).answers) }
+        ensures committed { OnOk result (replica_output.new.committed.items ≡ (replica_step O.sequential running.now self.old outs.now).replica.doing) }
+        ensures restored { OnOk result (replica_output.new.restored ≡ (replica_step O.sequential running.now self.old outs.now).restored) }
         ensures steady { OnOk result (HasSoundEpochs self.old.group self.old.epochs) }
         ensures err { OnErr result (self.new ≡ replica_stopped self.old) }
         ensures refused { IfErr result (λ fault. fault ≡ Memory) }
@@ -263,32 +265,32 @@ impl<O: Object> Replica<O> {
             self.tickets.pending(),
             self.committed,
             outs,
-            &mut given.due,
+            &mut replica_output.due,
         )?;
         if !self.replication.is_consistent() {
-            given.due.clear();
+            replica_output.due.clear();
             return Ok(());
         }
         let effects_in_step = apply_committed(
             self.alloc,
-            self.replication.held(),
+            self.replication.stored_log(),
             &mut self.sessions,
             self.tickets.pending(),
             self.committed,
             self.effects,
-            given,
+            replica_output,
         )?;
         let Some(effects_in_step) = effects_in_step else {
-            given.due.clear();
+            replica_output.due.clear();
             return Ok(());
         };
-        given.restored = self.replication.held().restored_places();
-        self.replication.record_sends(&given.due);
+        replica_output.restored = self.replication.stored_log().restored_places();
+        self.replication.record_sends(&replica_output.due);
         trim_if_due(
             self.alloc,
             &mut self.replication,
             &self.sessions,
-            &mut self.leaving,
+            &mut self.log_being_dropped,
         )?;
         self.effects_in_step = effects_in_step;
         self.stopped = false;
@@ -300,7 +302,10 @@ impl<O: Object> Replica<O> {
     /// Does not allocate. If the replica has stopped, nothing changes and nothing is returned.
     ///
     /// Rules: The replicated log 18 and 20
-    pub fn finish(&mut self, answers: &[TicketAnswer<O::Alloc>]) -> Vec<Call<O::Alloc>, O::Alloc>
+    pub fn end_replica_step(
+        &mut self,
+        answers: &[TicketAnswer<O::Alloc>],
+    ) -> Vec<Call<O::Alloc>, O::Alloc>
         ensures replica { self.new ≡ (if self.old.stopped then self.old else replica_done self.old answers.now) }
         ensures dropped { result.items ≡ self.old.leaving }
     {
@@ -308,18 +313,18 @@ impl<O: Object> Replica<O> {
             return Vec::new(self.alloc);
         }
         let more = newly_committed_calls(
-            current_log(self.replication.held(), &self.leaving),
+            current_log(self.replication.stored_log(), &self.log_being_dropped),
             self.committed,
         );
-        self.history = done(&self.history, self.replication.epochs(), more, answers);
-        self.tickets.keep(more, answers);
-        let log = self.replication.held().log();
-        self.places = log.length();
+        self.history = history_after_step(&self.history, self.replication.epochs(), more, answers);
+        self.tickets.record_committed_answers(more, answers);
+        let log = self.replication.stored_log().log();
+        self.log_len_at_step = log.length();
         self.committed = log.committed_length();
         self.trimmed = log.trimmed();
         self.effects = self.effects_in_step;
         self.replication.end_step();
-        take_leaving(self.alloc, &mut self.leaving)
+        take_leaving(self.alloc, &mut self.log_being_dropped)
     }
 
     /// Stops the replica for good.
@@ -364,7 +369,7 @@ impl<O: Object> Replica<O> {
     pub fn committed(&self) -> &[Call<O::Alloc>]
         ensures { result.now ≡ replica_committed self.now }
     {
-        let log = log_before_step(self.replication.held(), &self.leaving);
+        let log = log_before_step(self.replication.stored_log(), &self.log_being_dropped);
         &log.committed_calls()[..(self.committed - self.trimmed) as usize]
     }
 
@@ -394,7 +399,7 @@ impl<O: Object> Replica<O> {
     pub fn log_len(&self) -> u64
         ensures { result ≡ replica_length self.now }
     {
-        self.places
+        self.log_len_at_step
     }
 
     /// Returns the number of unanswered tickets, at most 64.
@@ -423,7 +428,7 @@ impl<O: Object> Replica<O> {
 /// Returns whether `last` is the running ring.
 ///
 /// False if no ring runs.
-fn is_running(running: &Option<RingId>, last: Option<RingId>) -> bool
+fn is_running_ring(running: &Option<RingId>, last: Option<RingId>) -> bool
     ensures { result ≡ is_running_some running.now last }
 {
     match (running, last) {
@@ -503,7 +508,7 @@ fn log_before_step<'a, A: Allocator + Copy + Drop>(
 ) -> &'a Log<A>
     ensures { result.now ≡ log_before_step held.now leaving.now }
 {
-    match held.before() {
+    match held.log_before_restore() {
         Some(log) => log,
         None => current_log(held, leaving),
     }
@@ -511,38 +516,38 @@ fn log_before_step<'a, A: Allocator + Copy + Drop>(
 
 /// Restores the sessions if the step restored the log, then applies the calls after the first `committed` places.
 ///
-/// Stores their answers and these calls in `given`. Returns the number of calls that took effect by then. Returns
-/// `None`, with `given` unchanged, if the restored bytes aren't a snapshot.
+/// Stores their answers and these calls in `replica_output`. Returns the number of calls that took effect by then.
+/// Returns `None`, with `replica_output` unchanged, if the restored bytes aren't a snapshot.
 ///
 /// Errors: `Memory` if an allocation fails.
 fn apply_committed<O: Object>(
     alloc: O::Alloc,
     held: &HeldLog<O::Alloc>,
     sessions: &mut Sessions<O>,
-    pending: &[Pending<O::Alloc>],
+    pending: &[PendingTicket<O::Alloc>],
     committed: u64,
     effects: u64,
-    given: &mut ReplicaOutput<O::Alloc>,
+    replica_output: &mut ReplicaOutput<O::Alloc>,
 ) -> Result<Option<u64>, Fault>
     ensures fits { IfOk result (λ effects_in_step. is_some effects_in_step ≡ is_table_held O.sequential held.now) }
     ensures table { OnOk result (is_table_held O.sequential held.now ≡ true
         → sessions.new ≡ fold (table_next O.sequential) (table_held O.sequential held.now sessions.old) (newly_committed_calls committed held.now.log)) }
-    ensures answers { OnOk result (is_table_held O.sequential held.now ≡ true → given.new.answers.items
-        ≡ answers_behind O.sequential (table_held O.sequential held.now sessions.old) pending.now [] (newly_committed_calls committed held.now.log)) }
-    ensures committed { OnOk result (is_table_held O.sequential held.now ≡ true → given.new.committed.items ≡ newly_committed_calls committed held.now.log) }
+    ensures answers { OnOk result (is_table_held O.sequential held.now ≡ true → replica_output.new.answers.items
+        ≡ answers_after_committed O.sequential (table_held O.sequential held.now sessions.old) pending.now [] (newly_committed_calls committed held.now.log)) }
+    ensures committed { OnOk result (is_table_held O.sequential held.now ≡ true → replica_output.new.committed.items ≡ newly_committed_calls committed held.now.log) }
     ensures effects_in_step { IfOk result (λ effects_in_step. IfSome effects_in_step (λ n. n
         ≡ min (2 ^ 64 - 1) ((if is_some held.now.before then table_effects (table_held O.sequential held.now sessions.old) else effects)
         + done_after O.sequential (table_held O.sequential held.now sessions.old) (newly_committed_calls committed held.now.log)))) }
-    ensures nothing { OnOk result (is_table_held O.sequential held.now ≡ false → given.new ≡ given.old) }
-    ensures due { OnOk result (given.new.due.items ≡ given.old.due.items) }
+    ensures nothing { OnOk result (is_table_held O.sequential held.now ≡ false → replica_output.new ≡ replica_output.old) }
+    ensures due { OnOk result (replica_output.new.due.items ≡ replica_output.old.due.items) }
     ensures refused { IfErr result (λ fault. fault ≡ Memory) }
 {
-    let fits = restore(alloc, held, sessions)?;
+    let fits = restore_sessions_if_due(alloc, held, sessions)?;
     if !fits {
         return Ok(None);
     }
-    given.committed = new_calls(alloc, held.log(), committed)?;
-    let effects = effects_in(held, sessions, effects);
+    replica_output.committed = copy_newly_committed(alloc, held.log(), committed)?;
+    let effects = effects_after_restore(held, sessions, effects);
     let (answers, effects_in_step) = new_answers(
         alloc,
         sessions,
@@ -551,14 +556,14 @@ fn apply_committed<O: Object>(
         committed,
         effects,
     )?;
-    given.answers = answers;
+    replica_output.answers = answers;
     Ok(Some(effects_in_step))
 }
 
 /// Copies the calls at a log's committed places that are neither dropped nor among the first `committed` places.
 ///
 /// Errors: `Memory` if an allocation fails.
-fn new_calls<A: Allocator + Copy + Drop>(
+fn copy_newly_committed<A: Allocator + Copy + Drop>(
     alloc: A,
     log: &Log<A>,
     committed: u64,
@@ -574,7 +579,7 @@ fn new_calls<A: Allocator + Copy + Drop>(
 /// Returns false if the bytes aren't a snapshot.
 ///
 /// Errors: `Memory` if an allocation fails.
-fn restore<O: Object>(
+fn restore_sessions_if_due<O: Object>(
     alloc: O::Alloc,
     held: &HeldLog<O::Alloc>,
     sessions: &mut Sessions<O>,
@@ -597,11 +602,15 @@ fn restore<O: Object>(
 }
 
 /// Returns the number of calls that took effect: that of the sessions if they were restored, otherwise `effects`.
-fn effects_in<O: Object>(held: &HeldLog<O::Alloc>, sessions: &Sessions<O>, effects: u64) -> u64
+fn effects_after_restore<O: Object>(
+    held: &HeldLog<O::Alloc>,
+    sessions: &Sessions<O>,
+    effects: u64,
+) -> u64
     ensures { result ≡ (if is_some held.now.before then table_effects sessions.now else effects) }
 {
     if held.is_restored() {
-        sessions.effects()
+        sessions.effect_count()
     } else {
         effects
     }
@@ -615,13 +624,13 @@ fn effects_in<O: Object>(held: &HeldLog<O::Alloc>, sessions: &Sessions<O>, effec
 fn new_answers<O: Object>(
     alloc: O::Alloc,
     sessions: &mut Sessions<O>,
-    pending: &[Pending<O::Alloc>],
+    pending: &[PendingTicket<O::Alloc>],
     log: &Log<O::Alloc>,
     committed: u64,
     effects: u64,
 ) -> Result<(Vec<TicketAnswer<O::Alloc>, O::Alloc>, u64), Fault>
     ensures table { OnOk result (sessions.new ≡ fold (table_next O.sequential) sessions.old (newly_committed_calls committed log.now)) }
-    ensures answers { IfOk result (λ given. given.0.items ≡ answers_behind O.sequential sessions.old pending.now [] (newly_committed_calls committed log.now)) }
+    ensures answers { IfOk result (λ given. given.0.items ≡ answers_after_committed O.sequential sessions.old pending.now [] (newly_committed_calls committed log.now)) }
     ensures effects { IfOk result (λ given. given.1 ≡ min (2 ^ 64 - 1) (effects + done_after O.sequential sessions.old (newly_committed_calls committed log.now))) }
     ensures refused { IfErr result (λ fault. fault ≡ Memory) }
 {
@@ -653,11 +662,11 @@ fn trim_if_due<O: Object>(
     ensures stays { OnErr result (leaving.new ≡ None) }
     ensures refused { IfErr result (λ fault. fault ≡ Memory) }
 {
-    if !replication.held().log().is_due_to_trim() {
+    if !replication.stored_log().log().is_due_to_trim() {
         return Ok(());
     }
-    let closed = replication.is_closed();
-    let snapshot = snapshot_if_due(alloc, closed, replication.held().log(), sessions)?;
+    let closed = replication.is_exchange_closed();
+    let snapshot = snapshot_if_due(alloc, closed, replication.stored_log().log(), sessions)?;
     *leaving = replication.trim(snapshot)?;
     Ok(())
 }

@@ -11,8 +11,8 @@ use Rattle.ring_log.specs.Logs.{log_length, head_of}
 use Rattle.ring_log.specs.Epochs.{Epoch}
 use Rattle.ring_log.specs.KnownLog.{known_log_of, known_log_length, retained_log, known_log_head}
 use Rattle.ring_node_spec.specs.DueSends.{due_at_regular}
-use Rattle.ring_replication.specs.declared.reach.LogWatermark.{LogWatermark}
-use Rattle.ring_replication.specs.declared.stage.ExchangeStage.{ExchangeStage}
+use Rattle.ring_replication.specs.declared.log_watermark.LogWatermark.{LogWatermark}
+use Rattle.ring_replication.specs.declared.exchange_stage.ExchangeStage.{ExchangeStage}
 use Rattle.ring_replication.specs.Replications.{HeldLog, IsReplicationKept}
 use Rattle.ring_replication.proofs.Replications.{length-with}
 use Rattle.ring_replication.proofs.ReplicationSteps.{known-epochs}

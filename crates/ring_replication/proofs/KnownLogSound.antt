@@ -8,7 +8,7 @@ use Rattle.ring_node_spec.specs.Outs.{Out}
 use Rattle.ring_node_spec.specs.OutVariants.{Send, Agreed, Safe, Trans, Rest, Regular}
 use Rattle.ring_log.specs.Logs.{is_log_length}
 use Rattle.ring_log.specs.Epochs.{Epoch, epoch_opening, epochs_with_message, epochs_with_mark}
-use Rattle.ring_log.specs.EpochHistories.{CompleteExchange, complete_exchange, calls_in, upto}
+use Rattle.ring_log.specs.EpochHistories.{CompleteExchange, complete_exchange, calls_in, messages_upto}
 use Rattle.ring_log.specs.KnownLog.{KnownLog, known_log_length, adopts, followed_by, known_log_of, keeps_kept, is_known_log_sound}
 use Rattle.ring_log_proof.proofs.CompleteExchanges.{grown, complete_exchange-front, calls_in-append}
 use Rattle.ring_log_proof.proofs.KnownLogSuffixes.{kept-short}
@@ -32,7 +32,7 @@ epoch-parts group s older t =
     record {
       before = inner.0;
       keeps = inner.1;
-      short = ap is_log_length (sym (length-by s.ring k s.trimmed o (complete_exchange group s.members (upto s.mark s.heard)))) ∙ outer.1;
+      short = ap is_log_length (sym (length-by s.ring k s.trimmed o (complete_exchange group s.members (messages_upto s.mark s.heard)))) ∙ outer.1;
     }
 
 pub epoch-sound : {A : Type 0} (group : Group) (s : Epoch A) (older : List (Epoch A)) → KeptSoundStay group s older → is_known_log_sound group (s ∷ older) ≡ true
@@ -41,7 +41,7 @@ epoch-sound group s older p =
     let o = complete_exchange group s.members s.heard in
     and_from (is_known_log_sound group older && keeps_kept k s.ring o) (is_log_length (known_log_length (known_log_of group (s ∷ older))))
     (and_from (is_known_log_sound group older) (keeps_kept k s.ring o) p.before p.keeps)
-    (ap is_log_length (length-by s.ring k s.trimmed o (complete_exchange group s.members (upto s.mark s.heard))) ∙ p.short)
+    (ap is_log_length (length-by s.ring k s.trimmed o (complete_exchange group s.members (messages_upto s.mark s.heard))) ∙ p.short)
 
 kept-step : {A : Type 0} (group : Group) (s : Epoch A) (older : List (Epoch A)) (x : Message A) (o p : Option (CompleteExchange A))
     → complete_exchange group s.members s.heard ≡ o → complete_exchange group s.members (s.heard ++ x ∷ []) ≡ p → is_known_log_sound group older ≡ true
@@ -82,8 +82,8 @@ history_with_mark-sound {A} group n (s ∷ older) =
     let k = known_log_of group older in
     let o = complete_exchange group s.members s.heard in
     let made : ℕ → Bool = λ m. (is_known_log_sound group older && keeps_kept k s.ring o) && is_log_length m in
-    ap made (length-by s.ring k s.trimmed o (complete_exchange group s.members (upto n s.heard)))
-    ∙ sym (ap made (length-by s.ring k s.trimmed o (complete_exchange group s.members (upto s.mark s.heard))))
+    ap made (length-by s.ring k s.trimmed o (complete_exchange group s.members (messages_upto n s.heard)))
+    ∙ sym (ap made (length-by s.ring k s.trimmed o (complete_exchange group s.members (messages_upto s.mark s.heard))))
 
 pub sound-epochs_after_event : {A : Type 0} (group : Group) (epochs : List (Epoch A)) (o : Out A) → is_known_log_sound group (epochs_after_event epochs o) ≡ true
     → is_known_log_sound group epochs ≡ true

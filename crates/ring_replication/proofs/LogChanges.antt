@@ -14,10 +14,10 @@ use Rattle.ring_log.specs.declared.base.Base.{Base}
 use Rattle.ring_log.specs.declared.wanted.Wanted.{Wanted}
 use Rattle.ring_log.specs.declared.adoption.Adoption.TheVariants.{Refused, Joined, Restored}
 use Rattle.ring_log.specs.Adoptions.{restored_with, adoption}
-use Rattle.ring_log.specs.Logs.{Log, log_length, appended, followed, based, restores, restored_log, joined_log, adopted, adopted_if, begins, is_log_length}
+use Rattle.ring_log.specs.Logs.{Log, log_length, appended, log_with_calls_if_room, calls_after_base, restores, restored_log, joined_log, log_after_base, log_after_base_if_may, begins, is_log_length}
 use Rattle.ring_log.specs.Logs.{is_adoptable, committed_upto, committed_calls}
 use Rattle.ring_log.proofs.Calls.{begins-Decides}
-use Rattle.ring_session.specs.declared.pending.Pending.{Pending}
+use Rattle.ring_session.specs.declared.pending_ticket.PendingTicket.{PendingTicket}
 use Rattle.ring_replication.specs.Replications.{HeldLog, held_log_restored, held_log_adopted, if_runs, owner_asked, fits_if, calls_if}
 use Rattle.ring_replication.specs.declared.delivery_context.DeliveryContext.{DeliveryContext}
 
@@ -26,7 +26,7 @@ use Rattle.ring_replication.specs.declared.delivery_context.DeliveryContext.{Del
 grows-appended : {A : Type 0} (log : Log A) (more : List (OneCall A)) → IsListPrefix (committed_calls log) (committed_calls (appended log more))
 grows-appended log more = take-append-front (log.committed - log.trimmed) log.calls more
 
-pub grows-followed : {A : Type 0} (log : Log A) (more : List (OneCall A)) → IsListPrefix (committed_calls log) (committed_calls (followed log more))
+pub grows-followed : {A : Type 0} (log : Log A) (more : List (OneCall A)) → IsListPrefix (committed_calls log) (committed_calls (log_with_calls_if_room log more))
 grows-followed {A} log more = by (is_log_length (log_length log + length more))
   where
     by : (b : Bool) → IsListPrefix (committed_calls log) (committed_calls (if b then appended log more else log))
@@ -38,11 +38,11 @@ grows-raised log n =
     take-longer_list (log.committed - log.trimmed) (max log.committed (min n (log_length log)) - log.trimmed) log.calls (omega arith)
 
 -- a base that begins with them is joined
-grows-joined : {A : Type 0} (log : Log A) (ring : RingId) (base : Base A) → begins (committed_calls log) (based log base) ≡ true
+grows-joined : {A : Type 0} (log : Log A) (ring : RingId) (base : Base A) → begins (committed_calls log) (calls_after_base log base) ≡ true
     → IsListPrefix (committed_calls log) (committed_calls (joined_log log ring base))
 grows-joined log ring base may =
     let first = committed_calls log in
-    let calls = based log base in
+    let calls = calls_after_base log base in
     let same : first ≡ take (length first) calls = (begins-Decides first calls).0 may in
     subst (λ w. IsListPrefix w (take (log.committed - log.trimmed) calls)) (sym same)
     (take-longer_list (length first) (log.committed - log.trimmed) calls (let l = length-take (log.committed - log.trimmed) log.calls in omega (arith, l)))
@@ -54,16 +54,16 @@ told-front None old new f = f
 told-front (Some log) old new f = prefix_self (committed_calls log)
 
 -- calls are appended, if there is room for them
-pub held-followed : {A : Type 0} (h : HeldLog A) (log : Log A) (calls : List (OneCall A)) → log ≡ followed h.log calls
+pub held-followed : {A : Type 0} (h : HeldLog A) (log : Log A) (calls : List (OneCall A)) → log ≡ log_with_calls_if_room h.log calls
     → is_log_length (log_length h.log + length calls) ≡ true → record h { log = log } ≡ record h { log = appended h.log calls }
 held-followed {A} h log calls is fits =
     ap (λ (l : Log A). record h { log = l }) (is ∙ cond-true (is_log_length (log_length h.log + length calls)) (appended h.log calls) h.log fits)
 
 pub front-followed : {A X E : Type 0} (r : Result X E) (before : Option (Log A)) (old new : Log A) (calls : List (OneCall A))
-    → OnOk r (new ≡ followed old calls) → OnErr r (new ≡ old) → IsListPrefix (committed_calls (unwrap_or before old)) (committed_calls (unwrap_or before new))
+    → OnOk r (new ≡ log_with_calls_if_room old calls) → OnErr r (new ≡ old) → IsListPrefix (committed_calls (unwrap_or before old)) (committed_calls (unwrap_or before new))
 front-followed {A} r before old new calls ok err =
     told-front before old new
-    (ok_or_err (λ (l : Log A). IsListPrefix (committed_calls old) (committed_calls l)) r new (followed old calls) old ok err (grows-followed old calls)
+    (ok_or_err (λ (l : Log A). IsListPrefix (committed_calls old) (committed_calls l)) r new (log_with_calls_if_room old calls) old ok err (grows-followed old calls)
     (prefix_self (committed_calls old)))
 
 -- more is committed
@@ -124,12 +124,12 @@ restored-is {A} log base bytes before e = by (is_adoptable log base) (restores l
     by false c o m r s e = absurd (cc e)
 
 -- the log after joining
-log-joined : {A : Type 0} (log : Log A) (ring : RingId) (base : Base A) → IsJoined log base → adopted_if log ring base ≡ joined_log log ring base
+log-joined : {A : Type 0} (log : Log A) (ring : RingId) (base : Base A) → IsJoined log base → log_after_base_if_may log ring base ≡ joined_log log ring base
 log-joined log ring base j =
-    cond-true (is_adoptable log base) (adopted log ring base) log j.may
+    cond-true (is_adoptable log base) (log_after_base log ring base) log j.may
     ∙ cond-false (restores log base) (restored_log log ring base) (joined_log log ring base) j.keeps
 
-pub held-joined : {A : Type 0} (h : HeldLog A) (ring : RingId) (base : Base A) (log : Log A) → IsJoined h.log base → log ≡ adopted_if h.log ring base
+pub held-joined : {A : Type 0} (h : HeldLog A) (ring : RingId) (base : Base A) (log : Log A) → IsJoined h.log base → log ≡ log_after_base_if_may h.log ring base
     → record h { log = log } ≡ held_log_adopted h ring base
 held-joined h ring base log j is =
     ap (λ l. record h { log = l }) (is ∙ log-joined h.log ring base j)
@@ -137,11 +137,11 @@ held-joined h ring base log j is =
     j.keeps)
 
 pub held-restored : {A : Type 0} (h : HeldLog A) (ring : RingId) (base : Base A) (log before : Log A) (bytes : List ℕ) → IsRestored h.log base bytes before
-    → log ≡ adopted_if h.log ring base
+    → log ≡ log_after_base_if_may h.log ring base
     → record { log = log; before = Some (unwrap_or h.before before); snapshot = bytes } ≡ held_log_adopted h ring base
 held-restored {A} h ring base log before bytes r is =
     let log_is : log ≡ restored_log h.log ring base =
-    is ∙ cond-true (is_adoptable h.log base) (adopted h.log ring base) h.log r.may
+    is ∙ cond-true (is_adoptable h.log base) (log_after_base h.log ring base) h.log r.may
     ∙ cond-true (restores h.log base) (restored_log h.log ring base) (joined_log h.log ring base) r.behind in
     let bytes_are : bytes ≡ unwrap_or base.snapshot h.snapshot = sym (ap (λ (o : Option (List ℕ)). unwrap_or o h.snapshot) r.snapshot) in
     let of : Log A → Log A → List ℕ → HeldLog A = λ l b bs. record { log = l; before = Some (unwrap_or h.before b); snapshot = bs } in
@@ -150,26 +150,26 @@ held-restored {A} h ring base log before bytes r is =
     r.behind)
 
 -- the committed places after joining
-pub front-joined : {A : Type 0} (log new : Log A) (ring : RingId) (base : Base A) → IsJoined log base → new ≡ adopted_if log ring base
+pub front-joined : {A : Type 0} (log new : Log A) (ring : RingId) (base : Base A) → IsJoined log base → new ≡ log_after_base_if_may log ring base
     → IsListPrefix (committed_calls log) (committed_calls new)
 front-joined log new ring base j is =
-    let either = and_parts (restores log base || (nat_le base.from log.committed && begins (committed_calls log) (based log base)))
+    let either = and_parts (restores log base || (nat_le base.from log.committed && begins (committed_calls log) (calls_after_base log base)))
     (is_log_length (base.from + length base.calls)) j.may in
-    let goes : (nat_le base.from log.committed && begins (committed_calls log) (based log base)) ≡ true =
-    ap (λ c. c || (nat_le base.from log.committed && begins (committed_calls log) (based log base))) (sym j.keeps) ∙ either.0 in
+    let goes : (nat_le base.from log.committed && begins (committed_calls log) (calls_after_base log base)) ≡ true =
+    ap (λ c. c || (nat_le base.from log.committed && begins (committed_calls log) (calls_after_base log base))) (sym j.keeps) ∙ either.0 in
     subst (λ l. IsListPrefix (committed_calls log) (committed_calls l)) (sym (is ∙ log-joined log ring base j))
-    (grows-joined log ring base (and_parts (nat_le base.from log.committed) (begins (committed_calls log) (based log base)) goes).1)
+    (grows-joined log ring base (and_parts (nat_le base.from log.committed) (begins (committed_calls log) (calls_after_base log base)) goes).1)
 
-pub front-refused : {A : Type 0} (log new : Log A) (ring : RingId) (base : Base A) → is_adoptable log base ≡ false → new ≡ adopted_if log ring base
+pub front-refused : {A : Type 0} (log new : Log A) (ring : RingId) (base : Base A) → is_adoptable log base ≡ false → new ≡ log_after_base_if_may log ring base
     → IsListPrefix (committed_calls log) (committed_calls new)
 front-refused log new ring base f is =
-    subst (λ l. IsListPrefix (committed_calls log) (committed_calls l)) (sym (is ∙ cond-false (is_adoptable log base) (adopted log ring base) log f))
+    subst (λ l. IsListPrefix (committed_calls log) (committed_calls l)) (sym (is ∙ cond-false (is_adoptable log base) (log_after_base log ring base) log f))
     (prefix_self (committed_calls log))
 
 -- ---- the pending calls
 
 -- the owner's places come before the calls
-pub due-together : {A X E : Type 0} (delivery_context : DeliveryContext) (pending : List (Pending A)) (h : HeldLog A) (r : Result X E) (b b' : Option (Base A))
+pub due-together : {A X E : Type 0} (delivery_context : DeliveryContext) (pending : List (PendingTicket A)) (h : HeldLog A) (r : Result X E) (b b' : Option (Base A))
     (v v' w w' : Option Wanted) (old mid new : List (Payload A)) → b ≡ b' → v ≡ v' → w ≡ w'
     → mid ≡ old ++ if_runs delivery_context.runs (owner_asked delivery_context.me h v w)
     → OnOk r (fits_if h.log b ≡ true → new ≡ mid ++ calls_if delivery_context pending h b)

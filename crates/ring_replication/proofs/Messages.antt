@@ -8,7 +8,7 @@ use Rattle.ring_base.specs.Group.{Group, is_primary}
 use Rattle.ring_base.specs.Numbers.{max_number}
 use Rattle.ring_base.specs.Processors.{has, nobody}
 use Rattle.ring_base.specs.declared.ring_id.RingId.{RingId}
-use Rattle.ring_payload.specs.Kinds.{calls_of}
+use Rattle.ring_payload.specs.PayloadKinds.{calls_of}
 use Rattle.ring_payload.specs.declared.call.Call.{Call as OneCall}
 use Rattle.ring_payload.specs.declared.calls.Part.{Part as OnePart}
 use Rattle.ring_payload.specs.declared.head.Head.{Head as OneHead}
@@ -18,26 +18,26 @@ use Rattle.ring_payload.specs.declared.content.Payload.TheVariants.{Call, Wrappe
 use Rattle.ring_wire.specs.declared.message.Message.{Message}
 use Rattle.ring_log.specs.declared.base.Base.{Base}
 use Rattle.ring_log.specs.declared.wanted.Wanted.{Wanted}
-use Rattle.ring_log.specs.Exchanges.{Exchange, exchange_opening, wanted_by, wanted, hear_head, is_next_piece, hear_snap, is_wanted, hear_part, heard}
+use Rattle.ring_log.specs.Exchanges.{Exchange, exchange_opening, wanted_from_heads, wanted, hear_head, is_next_piece, hear_snap, is_wanted, hear_part, heard}
 use Rattle.ring_log.specs.Exchanges.{has_all_wanted, is_exchange_complete, snapshot_by, base_from, handed_out, base_at, exchange_drained}
-use Rattle.ring_log.specs.Logs.{Log, log_length, appended, restores as log_restores, restored_log, joined_log, adopted, is_log_length, is_adoptable}
+use Rattle.ring_log.specs.Logs.{Log, log_length, appended, restores as log_restores, restored_log, joined_log, log_after_base, is_log_length, is_adoptable}
 use Rattle.ring_log.specs.Epochs.{Epoch}
-use Rattle.ring_log.specs.EpochHistories.{CompleteExchange, exchange_after_message, complete_exchange_from, after_all, complete_exchange, calls_in, upto}
+use Rattle.ring_log.specs.EpochHistories.{CompleteExchange, exchange_after_message, complete_exchange_from, exchange_after_messages, complete_exchange, calls_in, messages_upto}
 use Rattle.ring_log.specs.KnownLog.{KnownLog, IsKnownLog, known_log_length, restores, known_log_restored, known_log_joined, known_log_adopted, adopts, adopts_wanted}
-use Rattle.ring_log.specs.KnownLog.{followed_by, kept_by, dropped_by, known_log_of, retained_log}
+use Rattle.ring_log.specs.KnownLog.{followed_by, known_log_after_epoch, dropped_by, known_log_of, retained_log}
 use Rattle.ring_log.specs.KnownLog.{begins_kept, keeps_wanted, keeps_kept, is_known_log_sound}
 use Rattle.ring_log.proofs.AdoptedLogs.{adoptable-is, adopted-is, known-adopted}
 use Rattle.ring_log.proofs.WholeExchanges.{received_head, has-nobody, exchange_drained-open, exchange_opening-open, push-none, push-some, none-open, some-whole}
 use Rattle.ring_log_proof.proofs.CompleteExchanges.{grown, upto-front, calls_in-append}
 use Rattle.ring_log_proof.proofs.KnownGrows.{adopts-grown, known-longer_list}
-use Rattle.ring_log_proof.specs.Time.{IsEpochExtended}
+use Rattle.ring_log_proof.specs.EpochEvents.{IsEpochExtended}
 use Rattle.ring_replication.proofs.IsKnownLogExtended.{joined-places}
 use Rattle.ring_log_proof.proofs.KnownLogs.{known-epoch}
-use Rattle.ring_session.specs.declared.pending.Pending.{Pending}
+use Rattle.ring_session.specs.declared.pending_ticket.PendingTicket.{PendingTicket}
 use Rattle.ring_replication.specs.declared.delivery_context.DeliveryContext.{DeliveryContext}
-use Rattle.ring_replication.specs.declared.stage.ExchangeStage.{ExchangeStage}
-use Rattle.ring_replication.specs.declared.stage.ExchangeStage.TheVariants.{NotPrimary, Exchanging, Adopted}
-use Rattle.ring_node_spec.specs.DueSends.{has_all_heads, owner_due, due_when_heads_complete, places_past}
+use Rattle.ring_replication.specs.declared.exchange_stage.ExchangeStage.{ExchangeStage}
+use Rattle.ring_replication.specs.declared.exchange_stage.ExchangeStage.TheVariants.{NotPrimary, Exchanging, Adopted}
+use Rattle.ring_node_spec.specs.DueSends.{has_all_heads, owner_due, due_when_heads_complete, uncommitted_places}
 use Rattle.ring_replication.specs.Replications.{MayRestore}
 use Rattle.ring_replication.specs.Replications.{HeldLog, held_log_restored, held_log_adopted, stage_by_exchange, stage_in, reached_places, watermark_of, watermark_at, calls_to_resend, owner_asked, if_runs}
 use Rattle.ring_replication.specs.Replications.{MessageEffect, base_effect, message_effect, StepContext, bytes_at, owner_due_sends, due_sends_when_complete, due_sends_on_message}
@@ -45,13 +45,13 @@ use Rattle.ring_replication.proofs.Replications.{none-front, kept_base, log_with
 
 -- ---- an exchange that isn't complete
 
-after_all-push : {A : Type 0} (e : Exchange A) (xs : List (Message A)) (x : Message A) → after_all e (xs ++ x ∷ []) ≡ exchange_after_message (after_all e xs) x
-after_all-push e [] x = refl
-after_all-push e (y ∷ ys) x = after_all-push (exchange_after_message e y) ys x
+exchange_after_messages-push : {A : Type 0} (e : Exchange A) (xs : List (Message A)) (x : Message A) → exchange_after_messages e (xs ++ x ∷ []) ≡ exchange_after_message (exchange_after_messages e xs) x
+exchange_after_messages-push e [] x = refl
+exchange_after_messages-push e (y ∷ ys) x = exchange_after_messages-push (exchange_after_message e y) ys x
 
 -- before all Heads are received nothing is wanted
 unstated-wanted : {A : Type 0} (e : Exchange A) → has_all_heads e ≡ false → wanted e ≡ None
-unstated-wanted e f = cond-false (e.missing_heads == nobody) (wanted_by e.heads) None f
+unstated-wanted e f = cond-false (e.missing_heads == nobody) (wanted_from_heads e.heads) None f
 
 exchange_drained-wanted : {A : Type 0} (e : Exchange A) → wanted (exchange_drained e) ≡ wanted e
 exchange_drained-wanted {A} e = cond_both (is_exchange_complete e) (record e { bytes = []; received_calls = [] }) e (λ (r : Exchange A). wanted r ≡ wanted e) (λ t. refl) (λ f. refl)
@@ -120,7 +120,7 @@ base_by group s older text = kept_base s.ring (known_log_of group older) (comple
 abbrev pub log_by : {A : Type 0} → Group → Epoch A → List (Epoch A) → List (Message A) → Log A
 log_by group s older text =
     let b = base_by group s older text in
-    log_with b (max s.trimmed b.trimmed) (max b.committed (watermark_of group s.members s.ring (known_log_of group older) (upto s.mark s.heard)))
+    log_with b (max s.trimmed b.trimmed) (max b.committed (watermark_of group s.members s.ring (known_log_of group older) (messages_upto s.mark s.heard)))
 
 pub record Hears {A : Type 0} (group : Group) (s : Epoch A) (older : List (Epoch A)) (x : Message A) (h : HeldLog A) (t : MessageEffect A)
     (history_with_sends : List (Payload A)) : Type 0 where
@@ -143,27 +143,27 @@ record Before {A : Type 0} (group : Group) (s : Epoch A) (older : List (Epoch A)
 
 -- the length of an epoch's log doesn't depend on what is safe
 pub length-by : {A : Type 0} (ring : RingId) (k : KnownLog A) (places : ℕ) (o p : Option (CompleteExchange A))
-    → known_log_length (dropped_by places (kept_by ring k o p)) ≡ known_log_length (kept_base ring k o)
+    → known_log_length (dropped_by places (known_log_after_epoch ring k o p)) ≡ known_log_length (kept_base ring k o)
 length-by ring k places None p = refl
 length-by ring k places (Some w) p = refl
 
 pub from-by : {A : Type 0} (ring : RingId) (k : KnownLog A) (places : ℕ) (o p : Option (CompleteExchange A))
-    → (dropped_by places (kept_by ring k o p)).from ≡ (kept_base ring k o).from
+    → (dropped_by places (known_log_after_epoch ring k o p)).from ≡ (kept_base ring k o).from
 from-by ring k places None p = refl
 from-by ring k places (Some w) p = refl
 
 pub trimmed-by : {A : Type 0} (ring : RingId) (k : KnownLog A) (places : ℕ) (o p : Option (CompleteExchange A))
-    → (dropped_by places (kept_by ring k o p)).trimmed ≡ max places (kept_base ring k o).trimmed
+    → (dropped_by places (known_log_after_epoch ring k o p)).trimmed ≡ max places (kept_base ring k o).trimmed
 trimmed-by ring k places None p = refl
 trimmed-by ring k places (Some w) p = refl
 
 pub bytes-by : {A : Type 0} (ring : RingId) (k : KnownLog A) (places : ℕ) (o p : Option (CompleteExchange A))
-    → (dropped_by places (kept_by ring k o p)).snapshot ≡ (kept_base ring k o).snapshot
+    → (dropped_by places (known_log_after_epoch ring k o p)).snapshot ≡ (kept_base ring k o).snapshot
 bytes-by ring k places None p = refl
 bytes-by ring k places (Some w) p = refl
 
 pub calls-by : {A : Type 0} (ring : RingId) (k : KnownLog A) (places : ℕ) (o p : Option (CompleteExchange A))
-    → (dropped_by places (kept_by ring k o p)).calls ≡ (kept_base ring k o).calls
+    → (dropped_by places (known_log_after_epoch ring k o p)).calls ≡ (kept_base ring k o).calls
 calls-by ring k places None p = refl
 calls-by ring k places (Some w) p = refl
 
@@ -182,8 +182,8 @@ goes-same {A} group s older x h h' o o' e e' before snapshot same =
     let k = known_log_of group older in
     let K = known_log_of group (s ∷ older) in
     let text = s.heard ++ x ∷ [] in
-    let p = complete_exchange group s.members (upto s.mark s.heard) in
-    let p' = complete_exchange group s.members (upto s.mark text) in
+    let p = complete_exchange group s.members (messages_upto s.mark s.heard) in
+    let p' = complete_exchange group s.members (messages_upto s.mark text) in
     let base : Option (CompleteExchange A) → KnownLog A = λ w. kept_base s.ring k w in
     let first : K.from ≡ (base o).from = from-by s.ring k s.trimmed (complete_exchange group s.members s.heard) p ∙ ap (λ w. (base w).from) e in
     let grows : IsEpochExtended s (with_message s x) =
@@ -225,7 +225,7 @@ sound-now {A} group s older x b o t e is =
     let now : Option (CompleteExchange A) → Bool = λ w. (is_known_log_sound group older && keeps_kept k s.ring w) && is_log_length (known_log_length (kept_base s.ring k w)) in
     is ∙ ap (λ c. (c && keeps_kept k s.ring o) && is_log_length (known_log_length (kept_base s.ring k o))) (sym t) ∙ ap now (sym e)
     ∙ ap (λ n. (is_known_log_sound group older && keeps_kept k s.ring (complete_exchange group s.members text)) && is_log_length n)
-    (sym (length-by s.ring k s.trimmed (complete_exchange group s.members text) (complete_exchange group s.members (upto s.mark text))))
+    (sym (length-by s.ring k s.trimmed (complete_exchange group s.members text) (complete_exchange group s.members (messages_upto s.mark text))))
 
 -- an exchange that stays open, or a ring without one
 epochs_with_message-none : {A : Type 0} (group : Group) (s : Epoch A) (older : List (Epoch A)) (x : Message A) (h : HeldLog A) (stage : ExchangeStage A) (places due : List (Payload A))
@@ -235,7 +235,7 @@ epochs_with_message-none : {A : Type 0} (group : Group) (s : Epoch A) (older : L
 epochs_with_message-none {A} group s older x h stage places due k none at low same =
     let made : Option (CompleteExchange A) → Log A = λ o.
     let b = kept_base s.ring (known_log_of group older) o in
-    log_with b (max s.trimmed b.trimmed) (max b.committed (watermark_of group s.members s.ring (known_log_of group older) (upto s.mark s.heard))) in
+    log_with b (max s.trimmed b.trimmed) (max b.committed (watermark_of group s.members s.ring (known_log_of group older) (messages_upto s.mark s.heard))) in
     record {
       sound = sound-now group s older x true None k.old none (sym k.short);
       stage = λ t. at;
@@ -256,7 +256,7 @@ keeps-grown {A} k ring w more = by (wanted w.exchange)
 
 -- a ring that is already adopted
 epochs_with_message-adopted : {A : Type 0} (group : Group) (s : Epoch A) (older : List (Epoch A)) (x : Message A) (delivery_context : DeliveryContext)
-    (pending : List (Pending A)) (h : HeldLog A) (w : CompleteExchange A) (due : List (Payload A))
+    (pending : List (PendingTicket A)) (h : HeldLog A) (w : CompleteExchange A) (due : List (Payload A))
     → Before group s older h (Some w) → complete_exchange group s.members (s.heard ++ x ∷ []) ≡ Some (record w { rest = w.rest ++ x ∷ [] })
     → Adopted ≡ stage_in group s.members (s.heard ++ x ∷ []) → [] ≡ due
     → Hears group s older x h (message_effect delivery_context pending h Adopted x) due
@@ -266,7 +266,7 @@ epochs_with_message-adopted {A} group s older x delivery_context pending h w due
     let w' : CompleteExchange A = record w { rest = w.rest ++ x ∷ [] } in
     let b = kept_base ring known (Some w) in
     let b' = kept_base ring known (Some w') in
-    let front = watermark_of group s.members ring known (upto s.mark s.heard) in
+    let front = watermark_of group s.members ring known (messages_upto s.mark s.heard) in
     let made : Option (CompleteExchange A) → Log A = λ o.
     let c = kept_base ring known o in log_with c (max s.trimmed c.trimmed) (max c.committed front) in
     let t = max s.trimmed b.trimmed in
@@ -278,14 +278,14 @@ epochs_with_message-adopted {A} group s older x delivery_context pending h w due
     ∙ ap (followed_by (adopts known ring w)) calls
     ∙ ap (λ l. record (adopts known ring w) { calls = l }) (sym (append_assoc (adopts known ring w).calls (calls_in w.rest) (calls_of x.payload))) in
     let whole_is : known_log_length (known_log_of group (s ∷ older)) ≡ known_log_length b =
-    length-by ring known s.trimmed (complete_exchange group s.members s.heard) (complete_exchange group s.members (upto s.mark s.heard))
+    length-by ring known s.trimmed (complete_exchange group s.members s.heard) (complete_exchange group s.members (messages_upto s.mark s.heard))
     ∙ ap (λ o. known_log_length (kept_base ring known o)) k.exch in
     let known_is : retained_log (known_log_of group (s ∷ older)) ≡ made (Some w) =
-    kept-log group s.members ring known s.trimmed s.heard (upto s.mark s.heard) (complete_exchange group s.members s.heard)
-    (complete_exchange group s.members (upto s.mark s.heard)) refl refl (upto-front s.mark s.heard) ∙ ap made k.exch in
+    kept-log group s.members ring known s.trimmed s.heard (messages_upto s.mark s.heard) (complete_exchange group s.members s.heard)
+    (complete_exchange group s.members (messages_upto s.mark s.heard)) refl refl (upto-front s.mark s.heard) ∙ ap made k.exch in
     let dropped : (known_log_of group (s ∷ older)).trimmed ≡ t = ap (λ (l : Log A). l.trimmed) known_is in
     let first_is : (known_log_of group (s ∷ older)).from ≡ b.from =
-    from-by ring known s.trimmed (complete_exchange group s.members s.heard) (complete_exchange group s.members (upto s.mark s.heard))
+    from-by ring known s.trimmed (complete_exchange group s.members s.heard) (complete_exchange group s.members (messages_upto s.mark s.heard))
     ∙ ap (λ o. (kept_base ring known o).from) k.exch in
     let low : b.from ≤ t = omega (arith, k.known.low, first_is, dropped) in
     let high : t ≤ known_log_length b = omega (arith, k.known.high, k.known.within, dropped, whole_is) in
@@ -328,11 +328,11 @@ base-by {A} (Some v) bytes calls base e =
     (v, refl, sym same)
 
 -- a ring that the message makes the node adopt
-module _ {A : Type 0} (group : Group) (s : Epoch A) (older : List (Epoch A)) (x : Message A) (delivery_context : DeliveryContext) (pending : List (Pending A)) (h : HeldLog A)
+module _ {A : Type 0} (group : Group) (s : Epoch A) (older : List (Epoch A)) (x : Message A) (delivery_context : DeliveryContext) (pending : List (PendingTicket A)) (h : HeldLog A)
     (e : Exchange A) (places due : List (Payload A)) (k : Before group s older h None)
     (some : complete_exchange group s.members (s.heard ++ x ∷ []) ≡ Some (record { exchange = e; end = x.number; rest = [] }))
     (at : Adopted ≡ stage_in group s.members (s.heard ++ x ∷ [])) (ring_is : delivery_context.ring ≡ s.ring) (frozen : s.trimmed ≡ 0)
-    (early : complete_exchange group s.members (upto s.mark s.heard) ≡ None) (short : (known_log_of group older).committed ≤ max_number) where
+    (early : complete_exchange group s.members (messages_upto s.mark s.heard) ≡ None) (short : (known_log_of group older).committed ≤ max_number) where
   abbrev known : KnownLog A
   known = known_log_of group older
 
@@ -349,7 +349,7 @@ module _ {A : Type 0} (group : Group) (s : Epoch A) (older : List (Epoch A)) (x 
       let b = kept_base s.ring known o in log_with b (max n b.trimmed) (max b.committed (reached_places s.ring known p)) in
       let a : max 0 known.trimmed ≡ known.trimmed = omega arith in
       let c : max known.committed 0 ≡ known.committed = omega arith in
-      k.log ∙ ap (λ o. made o (complete_exchange group s.members (upto s.mark s.heard)) s.trimmed) k.exch
+      k.log ∙ ap (λ o. made o (complete_exchange group s.members (messages_upto s.mark s.heard)) s.trimmed) k.exch
       ∙ ap (λ p. made None p s.trimmed) early ∙ ap (made None None) frozen
       ∙ ap (λ n. log_with known n (max known.committed 0)) a ∙ ap (log_with known known.trimmed) c
 
@@ -379,7 +379,7 @@ module _ {A : Type 0} (group : Group) (s : Epoch A) (older : List (Epoch A)) (x 
         ∙ ap (λ c. c && is_log_length (known_log_length (known_log_adopted known s.ring v e.bytes e.received_calls))) (sym keeps-here)
         ∙ ap (λ n. keeps_kept known s.ring (Some whole) && is_log_length n) (sym length-here)
 
-    adopted-here : is_adoptable h.log base ≡ true → adopted h.log delivery_context.ring base ≡ log_by group s older (s.heard ++ x ∷ [])
+    adopted-here : is_adoptable h.log base ≡ true → log_after_base h.log delivery_context.ring base ≡ log_by group s older (s.heard ++ x ∷ [])
     adopted-here fits =
         let keeps = and_parts (keeps_kept known s.ring (Some whole)) (is_log_length (known_log_length now)) (sym fits-is ∙ fits) in
         let a = known_log_adopted known s.ring v e.bytes e.received_calls in
@@ -390,15 +390,15 @@ module _ {A : Type 0} (group : Group) (s : Epoch A) (older : List (Epoch A)) (x 
         let same : retained_log a ≡ made (Some whole) None 0 =
         sym (ap (λ n. log_with a n (max a.committed 0)) t ∙ ap (log_with a a.trimmed) c)
         ∙ ap (λ (b : KnownLog A). log_with b (max 0 b.trimmed) (max b.committed 0)) (sym (ap (λ (b : KnownLog A). followed_by b []) adopts-is ∙ followed-none a)) in
-        ap (λ l. adopted l delivery_context.ring base) log-was ∙ ap (λ r. adopted (retained_log known) r base) ring_is ∙ ap (adopted (retained_log known) s.ring) base_is
+        ap (λ l. log_after_base l delivery_context.ring base) log-was ∙ ap (λ r. log_after_base (retained_log known) r base) ring_is ∙ ap (log_after_base (retained_log known) s.ring) base_is
         ∙ sym (adopted-is known s.ring v e.bytes e.received_calls known-was (sym keeps-here ∙ keeps.0))
         ∙ same ∙ ap (made (Some whole) None) (sym frozen) ∙ ap (λ p. made (Some whole) p s.trimmed) (sym early)
-        ∙ ap (λ o. made o (complete_exchange group s.members (upto s.mark s.heard)) s.trimmed) (sym some)
+        ∙ ap (λ o. made o (complete_exchange group s.members (messages_upto s.mark s.heard)) s.trimmed) (sym some)
       where
         followed-none : (b : KnownLog A) → followed_by b [] ≡ b
         followed-none b = ap (λ l. record b { calls = l }) (append-nil b.calls)
 
-    held-log : (held_log_adopted h delivery_context.ring base).log ≡ adopted h.log delivery_context.ring base
+    held-log : (held_log_adopted h delivery_context.ring base).log ≡ log_after_base h.log delivery_context.ring base
     held-log = by (log_restores h.log base)
       where
         by : (b : Bool)
@@ -407,13 +407,13 @@ module _ {A : Type 0} (group : Group) (s : Epoch A) (older : List (Epoch A)) (x 
         by true = refl
         by false = refl
 
-    epochs_with_message-base : places ++ if_runs delivery_context.runs (calls_to_resend pending (places_past delivery_context.committed (log_by group s older (s.heard ++ x ∷ [])))) ≡ due
+    epochs_with_message-base : places ++ if_runs delivery_context.runs (calls_to_resend pending (uncommitted_places delivery_context.committed (log_by group s older (s.heard ++ x ∷ [])))) ≡ due
         → Hears group s older x h (base_effect delivery_context pending h (exchange_drained e) places (Some base)) due
     epochs_with_message-base is_due = record {
       sound = sound-now group s older x (is_adoptable h.log base) (Some whole) k.old some fits-is;
       stage = λ t. at;
       log = λ t. held-log ∙ adopted-here t;
-      due = λ t. ap (λ l. places ++ if_runs delivery_context.runs (calls_to_resend pending (places_past delivery_context.committed l))) (held-log ∙ adopted-here t) ∙ is_due;
+      due = λ t. ap (λ l. places ++ if_runs delivery_context.runs (calls_to_resend pending (uncommitted_places delivery_context.committed l))) (held-log ∙ adopted-here t) ∙ is_due;
       reach = λ t. ap log_length (held-log ∙ adopted-here t) ∙ reach-here t;
       onward = λ t. onward-here (restores known v) refl t;
     }
@@ -449,8 +449,8 @@ module _ {A : Type 0} (group : Group) (s : Epoch A) (older : List (Epoch A)) (x 
         was-log : h.log ≡ retained_log (known_log_of group (s ∷ older))
         was-log =
             k.log
-            ∙ sym (kept-log group s.members s.ring known s.trimmed s.heard (upto s.mark s.heard) (complete_exchange group s.members s.heard)
-            (complete_exchange group s.members (upto s.mark s.heard)) refl refl (upto-front s.mark s.heard))
+            ∙ sym (kept-log group s.members s.ring known s.trimmed s.heard (messages_upto s.mark s.heard) (complete_exchange group s.members s.heard)
+            (complete_exchange group s.members (messages_upto s.mark s.heard)) refl refl (upto-front s.mark s.heard))
 
         onward-here : (b : Bool) → restores known v ≡ b → is_adoptable h.log base ≡ true
             → MayRestore h held (known_log_of group (s ∷ older)) (known_log_of group (with_message s x ∷ older))
@@ -460,8 +460,8 @@ module _ {A : Type 0} (group : Group) (s : Epoch A) (older : List (Epoch A)) (x 
             let text = s.heard ++ x ∷ [] in
             let parts = and_parts (is_some v.snapshot) (nat_lt known.committed v.from) r in
             let less = ltb-true known.committed v.from parts.1 in
-            let safe = upto s.mark text in
-            let gone = trimmed-by s.ring known s.trimmed (complete_exchange group s.members s.heard) (complete_exchange group s.members (upto s.mark s.heard))
+            let safe = messages_upto s.mark text in
+            let gone = trimmed-by s.ring known s.trimmed (complete_exchange group s.members s.heard) (complete_exchange group s.members (messages_upto s.mark s.heard))
             ∙ ap (λ o. max s.trimmed (kept_base s.ring known o).trimmed) k.exch in
             let then_gone = trimmed-by s.ring known s.trimmed (complete_exchange group s.members text) (complete_exchange group s.members safe)
             ∙ ap (λ o. max s.trimmed (kept_base s.ring known o).trimmed) some ∙ ap (λ (c : KnownLog A). max s.trimmed c.trimmed) is in
@@ -508,14 +508,14 @@ module _ {A : Type 0} (group : Group) (s : Epoch A) (older : List (Epoch A)) (x 
             let a = known-adopted known s.ring v e.bytes e.received_calls known-was (sym keeps-here ∙ keeps.0) in
             let made : Option (CompleteExchange A) → Log A = λ o.
             let b = kept_base s.ring known o in
-            log_with b (max s.trimmed b.trimmed) (max b.committed (watermark_of group s.members s.ring known (upto s.mark s.heard))) in
+            log_with b (max s.trimmed b.trimmed) (max b.committed (watermark_of group s.members s.ring known (messages_upto s.mark s.heard))) in
             let first : now.from ≡ (known_log_adopted known s.ring v e.bytes e.received_calls).from = ap (λ (b : KnownLog A). b.from) adopts-is in
             let gone : now.trimmed ≡ (known_log_adopted known s.ring v e.bytes e.received_calls).trimmed = ap (λ (b : KnownLog A). b.trimmed) adopts-is in
             let low : now.from ≤ max s.trimmed now.trimmed = omega (arith, a.low, first, gone) in
             let high : max s.trimmed now.trimmed ≤ known_log_length now = omega (arith, a.high, a.within, gone, length-here, frozen) in
             ap log_length (ap made some)
             ∙ length-with group s.members s.ring known now (max s.trimmed now.trimmed)
-            (max now.committed (watermark_of group s.members s.ring known (upto s.mark s.heard))) low high
+            (max now.committed (watermark_of group s.members s.ring known (messages_upto s.mark s.heard))) low high
             ∙ reach-now ∙ ap (reached_places s.ring known) (sym some)
 
 -- ---- by the stage of the exchange
@@ -563,7 +563,7 @@ never-less n = by (nat_lt n n) refl
     by true t = absurd (let l = ltb-true n n t in omega (arith, l))
     by false f = f
 
-module _ {A : Type 0} (group : Group) (s : Epoch A) (older : List (Epoch A)) (x : Message A) (delivery_context : DeliveryContext) (pending : List (Pending A))
+module _ {A : Type 0} (group : Group) (s : Epoch A) (older : List (Epoch A)) (x : Message A) (delivery_context : DeliveryContext) (pending : List (PendingTicket A))
     (h : HeldLog A) where
   abbrev this_moment : StepContext A
   this_moment =
@@ -584,11 +584,11 @@ module _ {A : Type 0} (group : Group) (s : Epoch A) (older : List (Epoch A)) (x 
   text = s.heard ++ x ∷ []
 
   abbrev before_it : Exchange A
-  before_it = after_all (exchange_opening s.members) s.heard
+  before_it = exchange_after_messages (exchange_opening s.members) s.heard
 
   -- the places of the base past those committed before
   abbrev past : List (OneCall A)
-  past = places_past delivery_context.committed (log_by group s older text)
+  past = uncommitted_places delivery_context.committed (log_by group s older text)
 
   -- the due payloads if the exchange becomes this one
   abbrev due_for : Exchange A → List (Payload A)
@@ -615,9 +615,9 @@ module _ {A : Type 0} (group : Group) (s : Epoch A) (older : List (Epoch A)) (x 
         old = inner.0;
         keeps = ap (keeps_kept known s.ring) (sym e) ∙ inner.1;
         short = ap (λ p. is_log_length (known_log_length (kept_base s.ring known p))) (sym e)
-            ∙ ap is_log_length (sym (length-by s.ring known s.trimmed o (complete_exchange group s.members (upto s.mark s.heard)))) ∙ outer.1;
+            ∙ ap is_log_length (sym (length-by s.ring known s.trimmed o (complete_exchange group s.members (messages_upto s.mark s.heard)))) ∙ outer.1;
         log = k.logged
-            ∙ kept-log group s.members s.ring known s.trimmed s.heard (upto s.mark s.heard) o (complete_exchange group s.members (upto s.mark s.heard)) refl refl
+            ∙ kept-log group s.members s.ring known s.trimmed s.heard (messages_upto s.mark s.heard) o (complete_exchange group s.members (messages_upto s.mark s.heard)) refl refl
             (upto-front s.mark s.heard);
         was = k.known;
         known = known-epoch group s older k.known inner.1 k.within;
@@ -635,20 +635,20 @@ module _ {A : Type 0} (group : Group) (s : Epoch A) (older : List (Epoch A)) (x 
       ap (λ l. due_when_heads_complete delivery_context.me (bytes_at this_moment now) l before_it new) (sym k.logged)
       ∙ ap (λ bs. due_when_heads_complete delivery_context.me bs h.log before_it new) bytes
 
-  past-is : places_past delivery_context.committed (retained_log (known_log_of group (with_message s x ∷ older))) ≡ past
+  past-is : uncommitted_places delivery_context.committed (retained_log (known_log_of group (with_message s x ∷ older))) ≡ past
   past-is =
-      ap (places_past delivery_context.committed)
-      (kept-log group s.members s.ring (known_log_of group older) s.trimmed text (upto s.mark text) (complete_exchange group s.members text)
-      (complete_exchange group s.members (upto s.mark text)) refl refl (upto-front s.mark text))
+      ap (uncommitted_places delivery_context.committed)
+      (kept-log group s.members s.ring (known_log_of group older) s.trimmed text (messages_upto s.mark text) (complete_exchange group s.members text)
+      (complete_exchange group s.members (messages_upto s.mark text)) refl refl (upto-front s.mark text))
 
   due-is : Kept_before → is_primary group s.members ≡ true → due ≡ (if delivery_context.runs then due_for (exchange_after_message before_it x) else [])
   due-is k p =
       let left : Exchange A → List (OneCall A) → List (Payload A) = λ new l. if is_exchange_complete new && not (is_exchange_complete before_it) then calls_to_resend pending l else [] in
-      let past_places = places_past delivery_context.committed (retained_log (known_log_of group (with_message s x ∷ older))) in
+      let past_places = uncommitted_places delivery_context.committed (retained_log (known_log_of group (with_message s x ∷ older))) in
       let made : Exchange A → List (Payload A) = λ new. owner_due_sends this_moment (known_log_of group (s ∷ older)) before_it new ++ left new past_places in
       let new = exchange_after_message before_it x in
-      sym (due-by delivery_context.runs (is_primary group s.members) (made (after_all (exchange_opening s.members) text)) p)
-      ∙ ap (λ e. if delivery_context.runs then made e else []) (after_all-push (exchange_opening s.members) s.heard x)
+      sym (due-by delivery_context.runs (is_primary group s.members) (made (exchange_after_messages (exchange_opening s.members) text)) p)
+      ∙ ap (λ e. if delivery_context.runs then made e else []) (exchange_after_messages-push (exchange_opening s.members) s.heard x)
       ∙ ap (λ l. if delivery_context.runs then l ++ left new past_places else []) (owner-told k new)
       ∙ ap (λ l. if delivery_context.runs then due_when_heads_complete delivery_context.me h.snapshot h.log before_it new ++ left new l else []) past-is
 
@@ -661,9 +661,9 @@ module _ {A : Type 0} (group : Group) (s : Epoch A) (older : List (Epoch A)) (x 
   stage-primary : is_primary group s.members ≡ true → (o : Option (CompleteExchange A)) → complete_exchange_from (exchange_opening s.members) text ≡ o
       → stage_by_exchange o (exchange_after_message before_it x) ≡ stage_in group s.members text
   stage-primary p o e =
-      ap (stage_by_exchange o) (sym (after_all-push (exchange_opening s.members) s.heard x))
-      ∙ ap (λ (w : Option (CompleteExchange A)). stage_by_exchange w (after_all (exchange_opening s.members) text)) (sym e)
-      ∙ sym (cond-true (is_primary group s.members) (stage_by_exchange (complete_exchange_from (exchange_opening s.members) text) (after_all (exchange_opening s.members) text)) NotPrimary p)
+      ap (stage_by_exchange o) (sym (exchange_after_messages-push (exchange_opening s.members) s.heard x))
+      ∙ ap (λ (w : Option (CompleteExchange A)). stage_by_exchange w (exchange_after_messages (exchange_opening s.members) text)) (sym e)
+      ∙ sym (cond-true (is_primary group s.members) (stage_by_exchange (complete_exchange_from (exchange_opening s.members) text) (exchange_after_messages (exchange_opening s.members) text)) NotPrimary p)
 
   abbrev Goal : ExchangeStage A → Type 0
   Goal stage = Hears group s older x h (message_effect delivery_context pending h stage x) due
@@ -702,7 +702,7 @@ module _ {A : Type 0} (group : Group) (s : Epoch A) (older : List (Epoch A)) (x 
       let history_with_sends : handed_out new ≡ Some found.0 = cond-true (is_exchange_complete new) (base_from (wanted new) new.bytes new.received_calls) None c ∙ found.1 in
       let base_is : base_at e x.sender x.payload ≡ Some found.0 = cond-false (is_exchange_complete e) None (handed_out new) open_yet ∙ history_with_sends in
       let here : complete_exchange group s.members s.heard ≡ None = complete_exchange-primary s.heard p ∙ none in
-      let early = none-front group s.members (upto s.mark s.heard) s.heard (upto-front s.mark s.heard) here in
+      let early = none-front group s.members (messages_upto s.mark s.heard) s.heard (upto-front s.mark s.heard) here in
       let v = base-by (wanted new) new.bytes new.received_calls found.0 found.1 in
       let frozen = k.frozen p here in
       let b = before None here k in
@@ -725,9 +725,9 @@ module _ {A : Type 0} (group : Group) (s : Epoch A) (older : List (Epoch A)) (x 
       → Kept_before → delivery_context.ring ≡ s.ring → Goal (if b then stage_by_exchange o before_it else NotPrimary)
   epochs_with_message-by false o p e k ring =
       epochs_with_message-none group s older x h NotPrimary [] due (before None (complete_exchange-apart s.heard p) k) (complete_exchange-apart text p)
-      (sym (cond-false (is_primary group s.members) (stage_by_exchange (complete_exchange_from (exchange_opening s.members) text) (after_all (exchange_opening s.members) text)) NotPrimary p)) refl
-      (no-due delivery_context.runs (is_primary group s.members) (owner_due_sends this_moment (known_log_of group (s ∷ older)) before_it (after_all (exchange_opening s.members) text)
-      ++ due_sends_when_complete this_moment (with_message s x ∷ older) before_it (after_all (exchange_opening s.members) text)) p)
+      (sym (cond-false (is_primary group s.members) (stage_by_exchange (complete_exchange_from (exchange_opening s.members) text) (exchange_after_messages (exchange_opening s.members) text)) NotPrimary p)) refl
+      (no-due delivery_context.runs (is_primary group s.members) (owner_due_sends this_moment (known_log_of group (s ∷ older)) before_it (exchange_after_messages (exchange_opening s.members) text)
+      ++ due_sends_when_complete this_moment (with_message s x ∷ older) before_it (exchange_after_messages (exchange_opening s.members) text)) p)
   epochs_with_message-by true None p e k ring = epochs_with_message-open (is_exchange_complete (exchange_after_message before_it x)) refl p e k ring
   epochs_with_message-by true (Some w) p e k ring =
       let old = before_it in

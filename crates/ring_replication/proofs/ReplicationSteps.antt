@@ -16,26 +16,26 @@ use Rattle.ring_node_spec.specs.OutVariants.{Send, Agreed, Safe, Trans, Rest, Re
 use Rattle.ring_log.specs.Exchanges.{Exchange, exchange_opening}
 use Rattle.ring_log.specs.Logs.{Log, log_length, committed_upto, trimmed_log, trim_after, is_due_to_trim, is_log_length}
 use Rattle.ring_log.specs.Epochs.{Epoch, epoch_opening, epochs_with_message, epochs_with_mark, epochs_with_sends, epochs_with_trim}
-use Rattle.ring_log.specs.EpochHistories.{CompleteExchange, after_all, complete_exchange, upto}
-use Rattle.ring_log.specs.KnownLog.{KnownLog, IsKnownLog, kept_by, known_log_of, known_log_length, dropped_by, retained_log, keeps_kept, is_known_log_sound}
+use Rattle.ring_log.specs.EpochHistories.{CompleteExchange, exchange_after_messages, complete_exchange, messages_upto}
+use Rattle.ring_log.specs.KnownLog.{KnownLog, IsKnownLog, known_log_after_epoch, known_log_of, known_log_length, dropped_by, retained_log, keeps_kept, is_known_log_sound}
 use Rattle.ring_log.proofs.CommittedOf.{epochs_with_sends-kept}
-use Rattle.ring_log_proof.specs.Time.{IsEpochExtended}
+use Rattle.ring_log_proof.specs.EpochEvents.{IsEpochExtended}
 use Rattle.ring_log_proof.proofs.CompleteExchanges.{complete_exchange-front, upto-front}
 use Rattle.ring_log_proof.proofs.KnownGrows.{known-longer_list}
 use Rattle.ring_log_proof.proofs.KnownLogs.{known-epoch}
-use Rattle.ring_session.specs.declared.pending.Pending.{Pending}
+use Rattle.ring_session.specs.declared.pending_ticket.PendingTicket.{PendingTicket}
 use Rattle.ring_node_spec.specs.DueSends.{due_when_heads_complete}
 use Rattle.ring_node_spec.specs.EpochHistories.{epochs_after_event, epochs_after}
 use Rattle.ring_node_spec.proofs.EpochsAfterOutputs.{through-append}
 use Rattle.ring_node_spec.specs.Nodes.{is_closed}
-use Rattle.ring_replication.specs.declared.reach.LogWatermark.{LogWatermark}
+use Rattle.ring_replication.specs.declared.log_watermark.LogWatermark.{LogWatermark}
 use Rattle.ring_replication.specs.declared.delivery_context.DeliveryContext.{DeliveryContext}
-use Rattle.ring_replication.specs.declared.stage.ExchangeStage.{ExchangeStage}
-use Rattle.ring_replication.specs.Replications.{stage_in, watermark_of, watermark_at, watermarks_from, behind, left, covered_places, message_effect, StepContext, bytes_at, due_sends_when_complete}
+use Rattle.ring_replication.specs.declared.exchange_stage.ExchangeStage.{ExchangeStage}
+use Rattle.ring_replication.specs.Replications.{stage_in, watermark_of, watermark_at, watermarks_from, messages_after, watermarks_above, covered_places, message_effect, StepContext, bytes_at, due_sends_when_complete}
 use Rattle.ring_replication.specs.Replications.{due_sends_on_message, due_sends_at, due_sends_by, is_risen, rises_at, rises, is_running, HeldLog, held_log_trimmed, IsRestoredSnapshotHeld}
 use Rattle.ring_replication.specs.Replications.{MayRestore, IsHeldLogContinued, IsReplicationKept}
-use Rattle.ring_replication.proofs.Replications.{complete_exchange-nothing, covers-upto, upto-behind, watermarks-push, kept_base, log_with}
-use Rattle.ring_replication.proofs.Replications.{kept-log, length-with, settled, left-settled}
+use Rattle.ring_replication.proofs.Replications.{complete_exchange-nothing, covers-upto, upto-messages_after, watermarks-push, kept_base, log_with}
+use Rattle.ring_replication.proofs.Replications.{kept-log, length-with, settled, watermarks_above-settled}
 use Rattle.ring_replication.proofs.Messages.{with_message, Hears, epochs_with_message-is, length-by, from-by, trimmed-by, bytes-by, calls-by, never-less}
 use Rattle.ring_replication.proofs.IsKnownLogExtended.{known-self, known-trans}
 use Rattle.ring_log_proof.proofs.KnownLogSuffixes.{kept-short}
@@ -180,7 +180,7 @@ length-kept {group} {epochs} k =
 -- ---- a message
 
 module _ {A : Type 0} (group : Group) (epochs : List (Epoch A)) (held : HeldLog A) (ring : RingId) (stage : ExchangeStage A) (mark : ℕ) (watermarks : List LogWatermark)
-    (x : Message A) (delivery_context : DeliveryContext) (pending : List (Pending A)) where
+    (x : Message A) (delivery_context : DeliveryContext) (pending : List (PendingTicket A)) where
   abbrev the_moment : StepContext A
   the_moment =
       record {
@@ -219,7 +219,7 @@ module _ {A : Type 0} (group : Group) (epochs : List (Epoch A)) (held : HeldLog 
       → held' ≡ (message_effect delivery_context pending held stage x).held → places ≡ watermark_at stage' held'.log
       → IsReplicationKept group (epochs_with_message x epochs)
       (record held' { log = committed_upto held'.log (covered_places mark 0 (watermarks ++ record { number = x.number; places = places } ∷ [])) }) ring stage' mark
-      (left mark (watermarks ++ record { number = x.number; places = places } ∷ []))
+      (watermarks_above mark (watermarks ++ record { number = x.number; places = places } ∷ []))
       × IsHeldLogContinued held (record held' { log = committed_upto held'.log (covered_places mark 0 (watermarks ++ record { number = x.number; places = places } ∷ [])) })
       (known_log_of group epochs) (known_log_of group (epochs_with_message x epochs))
   kept-epochs_with_message k same t stage' held' places stage_is held_is places_is =
@@ -229,17 +229,17 @@ module _ {A : Type 0} (group : Group) (epochs : List (Epoch A)) (held : HeldLog 
       let known = known_log_of group older in
       let h = heard k same in
       let T = message_effect delivery_context pending held stage x in
-      let front = upto s.mark s.heard in
-      let xs = behind s.mark s.heard ++ x ∷ [] in
-      let all : front ++ xs ≡ s'.heard = sym (append_assoc front (behind s.mark s.heard) (x ∷ [])) ∙ ap (λ l. l ++ x ∷ []) (upto-behind s.mark s.heard) in
+      let front = messages_upto s.mark s.heard in
+      let xs = messages_after s.mark s.heard ++ x ∷ [] in
+      let all : front ++ xs ≡ s'.heard = sym (append_assoc front (messages_after s.mark s.heard) (x ∷ [])) ∙ ap (λ l. l ++ x ∷ []) (upto-messages_after s.mark s.heard) in
       let is = covers-upto s.mark s.mark s.heard (omega arith) in
-      let reach_is : places ≡ watermark_of group s.members s.ring known ((front ++ behind s.mark s.heard) ++ x ∷ []) =
+      let reach_is : places ≡ watermark_of group s.members s.ring known ((front ++ messages_after s.mark s.heard) ++ x ∷ []) =
       places_is ∙ ap (λ (g : ExchangeStage A). watermark_at g held'.log) stage_is ∙ ap (λ (y : HeldLog A). watermark_at T.stage y.log) held_is ∙ h.reach t
-      ∙ ap (λ l. watermark_of group s.members s.ring known (l ++ x ∷ [])) (sym (upto-behind s.mark s.heard)) in
+      ∙ ap (λ l. watermark_of group s.members s.ring known (l ++ x ∷ [])) (sym (upto-messages_after s.mark s.heard)) in
       let more : watermarks ++ record { number = x.number; places = places } ∷ [] ≡ watermarks_from group s.members s.ring known front xs =
       ap (λ l. l ++ record { number = x.number; places = places } ∷ []) k.unsafe
-      ∙ ap (λ n. watermarks_from group s.members s.ring known front (behind s.mark s.heard) ++ record { number = x.number; places = n } ∷ []) reach_is
-      ∙ sym (watermarks-push group s.members s.ring known front (behind s.mark s.heard) x) in
+      ∙ ap (λ n. watermarks_from group s.members s.ring known front (messages_after s.mark s.heard) ++ record { number = x.number; places = n } ∷ []) reach_is
+      ∙ sym (watermarks-push group s.members s.ring known front (messages_after s.mark s.heard) x) in
       let sound' : is_known_log_sound group (s' ∷ older) ≡ true = sym h.sound ∙ t in
       let parts' = epoch-parts group s' older sound' in
       let grows : IsEpochExtended s s' =
@@ -256,7 +256,7 @@ module _ {A : Type 0} (group : Group) (epochs : List (Epoch A)) (held : HeldLog 
       (let l = known-longer_list group s s' older grows in omega (arith, l, k.within)) in
       let known' = known-epoch group s' older k.known parts'.keeps within' in
       let o' = complete_exchange group s.members s'.heard in
-      let p' = complete_exchange group s.members (upto s.mark s'.heard) in
+      let p' = complete_exchange group s.members (messages_upto s.mark s'.heard) in
       let b' = kept_base s.ring known o' in
       let low : b'.from ≤ max s.trimmed b'.trimmed = omega (
         arith,
@@ -289,7 +289,7 @@ module _ {A : Type 0} (group : Group) (epochs : List (Epoch A)) (held : HeldLog 
           in_ring = k.in_ring;
           stands = stage_is ∙ h.stage t;
           safe = k.safe;
-          unsafe = ap (λ n. left n rs) k.safe ∙ ap (left s.mark) more ∙ left-settled group s' known front xs all is;
+          unsafe = ap (λ n. watermarks_above n rs) k.safe ∙ ap (watermarks_above s.mark) more ∙ watermarks_above-settled group s' known front xs all is;
           logged = log_now ∙ ap (λ l. retained_log (known_log_of group l)) (sym node_epochs);
           known = k.known;
           within = within';
@@ -305,21 +305,21 @@ module _ {A : Type 0} (group : Group) (epochs : List (Epoch A)) (held : HeldLog 
 pub kept-epochs_with_mark : {A : Type 0} (group : Group) (epochs : List (Epoch A)) (held : HeldLog A) (ring : RingId) (stage : ExchangeStage A) (mark : ℕ)
     (watermarks : List LogWatermark) (n : ℕ)
     → IsReplicationKept group epochs held ring stage mark watermarks → is_risen epochs n ≡ true
-    → IsReplicationKept group (epochs_with_mark n epochs) (record held { log = committed_upto held.log (covered_places n 0 watermarks) }) ring stage n (left n watermarks)
+    → IsReplicationKept group (epochs_with_mark n epochs) (record held { log = committed_upto held.log (covered_places n 0 watermarks) }) ring stage n (watermarks_above n watermarks)
     × IsHeldLogContinued held (record held { log = committed_upto held.log (covered_places n 0 watermarks) }) (known_log_of group epochs) (known_log_of group (epochs_with_mark n epochs))
 kept-epochs_with_mark {A} group epochs held ring stage mark watermarks n k risen =
     let s = k.epoch in
     let older = k.older in
     let s' : Epoch A = record s { mark = n } in
     let known = known_log_of group older in
-    let front = upto s.mark s.heard in
-    let xs = behind s.mark s.heard in
+    let front = messages_upto s.mark s.heard in
+    let xs = messages_after s.mark s.heard in
     let le : s.mark ≤ n = leb-true s.mark n (ap (λ (l : List (Epoch A)). is_risen l n) (sym k.parts) ∙ risen) in
-    let all = upto-behind s.mark s.heard in
+    let all = upto-messages_after s.mark s.heard in
     let is = covers-upto s.mark n s.heard le in
     let o = complete_exchange group s.members s.heard in
     let p = complete_exchange group s.members front in
-    let p' = complete_exchange group s.members (upto n s.heard) in
+    let p' = complete_exchange group s.members (messages_upto n s.heard) in
     let b = kept_base s.ring known o in
     let logged : held.log ≡ log_with b (max s.trimmed b.trimmed) (max b.committed (watermark_of group s.members s.ring known front)) =
     k.logged ∙ ap (λ l. retained_log (known_log_of group l)) k.parts
@@ -377,7 +377,7 @@ kept-epochs_with_mark {A} group epochs held ring stage mark watermarks n k risen
         in_ring = k.in_ring;
         stands = k.stands;
         safe = refl;
-        unsafe = ap (left n) k.unsafe ∙ left-settled group s' known front xs all is;
+        unsafe = ap (watermarks_above n) k.unsafe ∙ watermarks_above-settled group s' known front xs all is;
         logged = log_now;
         known = k.known;
         within = within';
@@ -399,7 +399,7 @@ kept-enters {A} group older held ring members t known is restored =
     let k = known_log_of group older in
     let low : max 0 k.trimmed ≡ k.trimmed = omega arith in
     let same : known_log_of group (epoch_opening ring members ∷ older) ≡ k =
-    ap (λ (o : Option (CompleteExchange A)). dropped_by 0 (kept_by ring k o o)) none
+    ap (λ (o : Option (CompleteExchange A)). dropped_by 0 (known_log_after_epoch ring k o o)) none
     ∙ ap (λ n. record k { trimmed = n }) low in
     let onward : MayRestore held held k (known_log_of group (epoch_opening ring members ∷ older)) =
     subst (λ (y : KnownLog A). MayRestore held held k y) (sym same) (inl (record { before = refl; snapshot = refl; known = known-self k })) in
@@ -467,7 +467,7 @@ kept-epochs_with_trim {A} group epochs held ring stage mark watermarks bytes k c
     let known = known_log_of group older in
     let s' : Epoch A = record s { trimmed = held.log.committed } in
     let o = complete_exchange group s.members s.heard in
-    let p = complete_exchange group s.members (upto s.mark s.heard) in
+    let p = complete_exchange group s.members (messages_upto s.mark s.heard) in
     let sound = epoch-parts group s older (ap (is_known_log_sound group) (sym k.parts) ∙ k.sound) in
     let was = known-epoch group s older k.known sound.keeps k.within in
     let K = known_log_of group (s ∷ older) in
@@ -530,8 +530,8 @@ heard-same : {A : Type 0} (m : StepContext A) (t : ℕ) (b : List ℕ) (runs : B
 heard-same m t b runs [] x after e = refl
 heard-same {A} m t b runs (s ∷ older) x after e =
     let k = known_log_of m.group (s ∷ older) in
-    let old : Exchange A = after_all (exchange_opening s.members) s.heard in
-    let new : Exchange A = after_all (exchange_opening s.members) (s.heard ++ x ∷ []) in
+    let old : Exchange A = exchange_after_messages (exchange_opening s.members) s.heard in
+    let new : Exchange A = exchange_after_messages (exchange_opening s.members) (s.heard ++ x ∷ []) in
     ap (λ bs. if runs then (if is_primary m.group s.members then due_when_heads_complete m.me bs (retained_log k) old new ++ due_sends_when_complete m after old new else [])
     else []) e
 

@@ -11,12 +11,12 @@ use Rattle.ring_wire.specs.declared.message.Message.{Message}
 use Rattle.ring_log.specs.Exchanges.{exchange_opening}
 use Rattle.ring_log.specs.Logs.{Log, log_length, committed_upto}
 use Rattle.ring_log.specs.Epochs.{Epoch}
-use Rattle.ring_log.specs.EpochHistories.{CompleteExchange, complete_exchange_from, complete_exchange, calls_in, upto}
-use Rattle.ring_log.specs.KnownLog.{KnownLog, known_log_length, adopts, followed_by, watermark_by, kept_by, dropped_by, known_log_of, retained_log}
+use Rattle.ring_log.specs.EpochHistories.{CompleteExchange, complete_exchange_from, complete_exchange, calls_in, messages_upto}
+use Rattle.ring_log.specs.KnownLog.{KnownLog, known_log_length, adopts, followed_by, watermark_by, known_log_after_epoch, dropped_by, known_log_of, retained_log}
 use Rattle.ring_log_proof.proofs.CompleteExchanges.{grown, complete_exchange-front, upto-front, calls_in-append}
 use Rattle.ring_log_proof.proofs.KnownGrows.{adopts-grown}
-use Rattle.ring_replication.specs.declared.reach.LogWatermark.{LogWatermark}
-use Rattle.ring_replication.specs.Replications.{reached_places, watermark_of, watermarks_from, behind, left, covered_places}
+use Rattle.ring_replication.specs.declared.log_watermark.LogWatermark.{LogWatermark}
+use Rattle.ring_replication.specs.Replications.{reached_places, watermark_of, watermarks_from, messages_after, watermarks_above, covered_places}
 
 -- no exchange is complete before anything is received
 pub complete_exchange-nothing : {A : Type 0} (group : Group) (m : ℕ) → complete_exchange {A = A} group m [] ≡ None
@@ -40,29 +40,29 @@ abbrev pub IsCovered : {A : Type 0} → ℕ → List (Message A) → Type 0
 IsCovered mark [] = Unit {0}
 IsCovered mark (x ∷ xs) = (nat_le x.number mark ≡ true) × IsCovered mark xs
 
-pub upto-covered_places : {A : Type 0} (mark : ℕ) (front xs : List (Message A)) → IsCovered mark front → upto mark (front ++ xs) ≡ front ++ upto mark xs
+pub upto-covered_places : {A : Type 0} (mark : ℕ) (front xs : List (Message A)) → IsCovered mark front → messages_upto mark (front ++ xs) ≡ front ++ messages_upto mark xs
 upto-covered_places mark [] xs c = refl
 upto-covered_places mark (x ∷ front) xs c =
-    cond-true (nat_le x.number mark) (x ∷ upto mark (front ++ xs)) [] c.0 ∙ ap (λ l. x ∷ l) (upto-covered_places mark front xs c.1)
+    cond-true (nat_le x.number mark) (x ∷ messages_upto mark (front ++ xs)) [] c.0 ∙ ap (λ l. x ∷ l) (upto-covered_places mark front xs c.1)
 
-pub behind-covered_places : {A : Type 0} (mark : ℕ) (front xs : List (Message A)) → IsCovered mark front → behind mark (front ++ xs) ≡ behind mark xs
-behind-covered_places mark [] xs c = refl
-behind-covered_places mark (x ∷ front) xs c =
-    cond-true (nat_le x.number mark) (behind mark (front ++ xs)) (x ∷ (front ++ xs)) c.0 ∙ behind-covered_places mark front xs c.1
+pub messages_after-covered_places : {A : Type 0} (mark : ℕ) (front xs : List (Message A)) → IsCovered mark front → messages_after mark (front ++ xs) ≡ messages_after mark xs
+messages_after-covered_places mark [] xs c = refl
+messages_after-covered_places mark (x ∷ front) xs c =
+    cond-true (nat_le x.number mark) (messages_after mark (front ++ xs)) (x ∷ (front ++ xs)) c.0 ∙ messages_after-covered_places mark front xs c.1
 
 -- what a mark covers, each later mark covers
-pub covers-upto : {A : Type 0} (mark later : ℕ) (xs : List (Message A)) → mark ≤ later → IsCovered later (upto mark xs)
+pub covers-upto : {A : Type 0} (mark later : ℕ) (xs : List (Message A)) → mark ≤ later → IsCovered later (messages_upto mark xs)
 covers-upto mark later [] le = tt
 covers-upto mark later (x ∷ xs) le =
-    cond_both (nat_le x.number mark) (x ∷ upto mark xs) [] (IsCovered later)
+    cond_both (nat_le x.number mark) (x ∷ messages_upto mark xs) [] (IsCovered later)
     (λ t. (le-leb x.number later (omega (arith, leb-true x.number mark t, le)), covers-upto mark later xs le)) (λ f. tt)
 
 -- the two parts are the whole
-pub upto-behind : {A : Type 0} (mark : ℕ) (xs : List (Message A)) → upto mark xs ++ behind mark xs ≡ xs
-upto-behind mark [] = refl
-upto-behind mark (x ∷ xs) = by (nat_le x.number mark) (upto-behind mark xs)
+pub upto-messages_after : {A : Type 0} (mark : ℕ) (xs : List (Message A)) → messages_upto mark xs ++ messages_after mark xs ≡ xs
+upto-messages_after mark [] = refl
+upto-messages_after mark (x ∷ xs) = by (nat_le x.number mark) (upto-messages_after mark xs)
   where
-    by : (b : Bool) → upto mark xs ++ behind mark xs ≡ xs → (if b then x ∷ upto mark xs else []) ++ (if b then behind mark xs else x ∷ xs) ≡ x ∷ xs
+    by : (b : Bool) → messages_upto mark xs ++ messages_after mark xs ≡ xs → (if b then x ∷ messages_upto mark xs else []) ++ (if b then messages_after mark xs else x ∷ xs) ≡ x ∷ xs
     by true e = ap (λ l. x ∷ l) e
     by false e = refl
 
@@ -102,25 +102,25 @@ module _ {A : Type 0} (group : Group) (m : ℕ) (ring : RingId) (k : KnownLog A)
   reach-grows xs ys f = reached_places-grows xs ys (complete_exchange group m xs) refl f
 
   -- the watermarks that a mark leaves
-  pub left-is : (mark : ℕ) (front xs : List (Message A))
-      → left mark (watermarks_from group m ring k front xs) ≡ watermarks_from group m ring k (front ++ upto mark xs) (behind mark xs)
-  left-is mark front [] = refl
-  left-is mark front (x ∷ xs) = by (nat_le x.number mark) (left-is mark (front ++ x ∷ []) xs)
+  pub watermarks_above-is : (mark : ℕ) (front xs : List (Message A))
+      → watermarks_above mark (watermarks_from group m ring k front xs) ≡ watermarks_from group m ring k (front ++ messages_upto mark xs) (messages_after mark xs)
+  watermarks_above-is mark front [] = refl
+  watermarks_above-is mark front (x ∷ xs) = by (nat_le x.number mark) (watermarks_above-is mark (front ++ x ∷ []) xs)
     where
       by : (b : Bool)
-          → left mark (watermarks_from group m ring k (front ++ x ∷ []) xs)
-          ≡ watermarks_from group m ring k ((front ++ x ∷ []) ++ upto mark xs) (behind mark xs)
-          → (if b then left mark (watermarks_from group m ring k (front ++ x ∷ []) xs) else watermarks_from group m ring k front (x ∷ xs))
-          ≡ watermarks_from group m ring k (front ++ (if b then x ∷ upto mark xs else [])) (if b then behind mark xs else x ∷ xs)
+          → watermarks_above mark (watermarks_from group m ring k (front ++ x ∷ []) xs)
+          ≡ watermarks_from group m ring k ((front ++ x ∷ []) ++ messages_upto mark xs) (messages_after mark xs)
+          → (if b then watermarks_above mark (watermarks_from group m ring k (front ++ x ∷ []) xs) else watermarks_from group m ring k front (x ∷ xs))
+          ≡ watermarks_from group m ring k (front ++ (if b then x ∷ messages_upto mark xs else [])) (if b then messages_after mark xs else x ∷ xs)
       by true e =
           e
-          ∙ ap (λ l. watermarks_from group m ring k l (behind mark xs)) (append_assoc front (x ∷ []) (upto mark xs))
+          ∙ ap (λ l. watermarks_from group m ring k l (messages_after mark xs)) (append_assoc front (x ∷ []) (messages_upto mark xs))
       by false e = ap (λ l. watermarks_from group m ring k l (x ∷ xs)) (sym (append-nil front))
 
   -- the places of the last watermark that it covers
   pub covered_places-is : (mark places : ℕ) (front xs : List (Message A))
-      → ((upto mark xs ≡ []) × (covered_places mark places (watermarks_from group m ring k front xs) ≡ places))
-      ⊎ (covered_places mark places (watermarks_from group m ring k front xs) ≡ watermark_of group m ring k (front ++ upto mark xs))
+      → ((messages_upto mark xs ≡ []) × (covered_places mark places (watermarks_from group m ring k front xs) ≡ places))
+      ⊎ (covered_places mark places (watermarks_from group m ring k front xs) ≡ watermark_of group m ring k (front ++ messages_upto mark xs))
   covered_places-is mark places front [] = inl (refl, refl)
   covered_places-is mark places front (x ∷ xs) =
       let here = watermark_of group m ring k (front ++ x ∷ []) in
@@ -128,13 +128,13 @@ module _ {A : Type 0} (group : Group) (m : ℕ) (ring : RingId) (k : KnownLog A)
       by (nat_le x.number mark) here rest (covered_places-is mark here (front ++ x ∷ []) xs) refl
     where
       by : (b : Bool) (here : ℕ) (rest : List LogWatermark)
-          → ((upto mark xs ≡ []) × (covered_places mark here rest ≡ here)) ⊎ (covered_places mark here rest ≡ watermark_of group m ring k ((front ++ x ∷ []) ++ upto mark xs))
+          → ((messages_upto mark xs ≡ []) × (covered_places mark here rest ≡ here)) ⊎ (covered_places mark here rest ≡ watermark_of group m ring k ((front ++ x ∷ []) ++ messages_upto mark xs))
           → here ≡ watermark_of group m ring k (front ++ x ∷ [])
-          → (((if b then x ∷ upto mark xs else []) ≡ []) × ((if b then covered_places mark here rest else places) ≡ places))
-          ⊎ ((if b then covered_places mark here rest else places) ≡ watermark_of group m ring k (front ++ (if b then x ∷ upto mark xs else [])))
+          → (((if b then x ∷ messages_upto mark xs else []) ≡ []) × ((if b then covered_places mark here rest else places) ≡ places))
+          ⊎ ((if b then covered_places mark here rest else places) ≡ watermark_of group m ring k (front ++ (if b then x ∷ messages_upto mark xs else [])))
       by true here rest (inl none) is =
           inr (none.1 ∙ is ∙ ap (λ l. watermark_of group m ring k (front ++ x ∷ l)) (sym none.0))
-      by true here rest (inr some) is = inr (some ∙ ap (watermark_of group m ring k) (append_assoc front (x ∷ []) (upto mark xs)))
+      by true here rest (inr some) is = inr (some ∙ ap (watermark_of group m ring k) (append_assoc front (x ∷ []) (messages_upto mark xs)))
       by false here rest c is = inl (refl, refl)
 
   -- the watermark of a safe prefix is computed from what was adopted
@@ -150,7 +150,7 @@ module _ {A : Type 0} (group : Group) (m : ℕ) (ring : RingId) (k : KnownLog A)
   -- the log of an epoch, by its base
   pub kept-log : (places : ℕ) (heard safe : List (Message A)) (o p : Option (CompleteExchange A)) → complete_exchange group m heard ≡ o → complete_exchange group m safe ≡ p
       → IsListPrefix safe heard
-      → retained_log (dropped_by places (kept_by ring k o p))
+      → retained_log (dropped_by places (known_log_after_epoch ring k o p))
       ≡ log_with (kept_base ring k o) (max places (kept_base ring k o).trimmed) (max (kept_base ring k o).committed (reached_places ring k p))
   kept-log places heard safe None None e f is =
       let n : k.committed ≡ max k.committed 0 = omega arith in
@@ -188,12 +188,12 @@ settled {A} group s older front xs log all is low high stands =
     let t = max s.trimmed b.trimmed in
     let old = b.committed in
     let rs = watermarks_from group m ring k front xs in
-    let safe = upto s.mark s.heard in
-    let safe_is : safe ≡ front ++ upto s.mark xs = ap (upto s.mark) (sym all) ∙ upto-covered_places s.mark front xs is in
+    let safe = messages_upto s.mark s.heard in
+    let safe_is : safe ≡ front ++ messages_upto s.mark xs = ap (messages_upto s.mark) (sym all) ∙ upto-covered_places s.mark front xs is in
     let within : watermark_of group m ring k safe ≤ known_log_length b =
     omega (arith, reach-grows group m ring k safe s.heard (upto-front s.mark s.heard), reach-all group m ring k o) in
     let grows : watermark_of group m ring k front ≤ watermark_of group m ring k safe =
-    reach-grows group m ring k front safe (subst (λ l. IsListPrefix front l) (sym safe_is) (prefix_append front (upto s.mark xs))) in
+    reach-grows group m ring k front safe (subst (λ l. IsListPrefix front l) (sym safe_is) (prefix_append front (messages_upto s.mark xs))) in
     let first = max old (watermark_of group m ring k front) in
     let long : log_length (log_with b t first) ≡ known_log_length b = length-with group m ring k b t first low high in
     let n : max first (min (covered_places s.mark 0 rs) (log_length (log_with b t first))) ≡ max old (watermark_of group m ring k safe) =
@@ -212,11 +212,11 @@ settled {A} group s older front xs log all is low high stands =
     ∙ sym (kept-log group m ring k s.trimmed s.heard safe o (complete_exchange group m safe) refl refl (upto-front s.mark s.heard))
 
 -- and the watermarks that it leaves
-pub left-settled : {A : Type 0} (group : Group) (s : Epoch A) (k : KnownLog A) (front xs : List (Message A))
+pub watermarks_above-settled : {A : Type 0} (group : Group) (s : Epoch A) (k : KnownLog A) (front xs : List (Message A))
     → front ++ xs ≡ s.heard → IsCovered s.mark front
-    → left s.mark (watermarks_from group s.members s.ring k front xs) ≡ watermarks_from group s.members s.ring k (upto s.mark s.heard) (behind s.mark s.heard)
-left-settled group s k front xs all is =
-    left-is group s.members s.ring k s.mark front xs
-    ∙ ap (λ l. watermarks_from group s.members s.ring k l (behind s.mark xs)) (sym (upto-covered_places s.mark front xs is))
-    ∙ ap (λ l. watermarks_from group s.members s.ring k (upto s.mark (front ++ xs)) l) (sym (behind-covered_places s.mark front xs is))
-    ∙ ap (λ l. watermarks_from group s.members s.ring k (upto s.mark l) (behind s.mark l)) all
+    → watermarks_above s.mark (watermarks_from group s.members s.ring k front xs) ≡ watermarks_from group s.members s.ring k (messages_upto s.mark s.heard) (messages_after s.mark s.heard)
+watermarks_above-settled group s k front xs all is =
+    watermarks_above-is group s.members s.ring k s.mark front xs
+    ∙ ap (λ l. watermarks_from group s.members s.ring k l (messages_after s.mark xs)) (sym (upto-covered_places s.mark front xs is))
+    ∙ ap (λ l. watermarks_from group s.members s.ring k (messages_upto s.mark (front ++ xs)) l) (sym (messages_after-covered_places s.mark front xs is))
+    ∙ ap (λ l. watermarks_from group s.members s.ring k (messages_upto s.mark l) (messages_after s.mark l)) all

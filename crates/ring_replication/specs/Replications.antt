@@ -5,7 +5,7 @@ use Rattle.std.specs.Prelude.{◌<◌, ◌-◌, ◌⊎◌, take, length, map, fi
 use Rattle.ring_base.specs.Group.{Group, is_primary}
 use Rattle.ring_base.specs.Rings.{same_ring}
 use Rattle.ring_base.specs.declared.ring_id.RingId.{RingId}
-use Rattle.ring_payload.specs.Kinds.{calls_of}
+use Rattle.ring_payload.specs.PayloadKinds.{calls_of}
 use Rattle.ring_payload.specs.declared.call.Call.{Call as OneCall}
 use Rattle.ring_payload.specs.declared.content.Payload.{Payload}
 use Rattle.ring_payload.specs.declared.content.Payload.TheVariants.{Call}
@@ -15,19 +15,19 @@ use Rattle.ring_node_spec.specs.OutVariants.{Send, Agreed, Safe, Trans, Rest, Re
 use Rattle.ring_log.specs.declared.base.Base.{Base}
 use Rattle.ring_log.specs.declared.wanted.Wanted.{Wanted}
 use Rattle.ring_log.specs.Exchanges.{Exchange, exchange_opening, wanted, heard, is_exchange_complete, base_at, exchange_drained}
-use Rattle.ring_log.specs.Logs.{Log, empty, log_length, appended, restores, restored_log, joined_log, trimmed_log, is_adoptable, is_log_length}
-use Rattle.ring_log.specs.Epochs.{Epoch, epochs_opening, epochs_with_trim}
-use Rattle.ring_log.specs.EpochHistories.{CompleteExchange, complete_exchange_from, after_all, complete_exchange, upto}
+use Rattle.ring_log.specs.Logs.{Log, log_opening, log_length, appended, restores, restored_log, joined_log, trimmed_log, is_adoptable, is_log_length}
+use Rattle.ring_log.specs.Epochs.{Epoch, history_opening_of, epochs_with_trim}
+use Rattle.ring_log.specs.EpochHistories.{CompleteExchange, complete_exchange_from, exchange_after_messages, complete_exchange, messages_upto}
 use Rattle.ring_log.specs.KnownLog.{KnownLog, IsKnownLog, adopts, watermark_by, known_log_of, retained_log, is_known_log_sound}
-use Rattle.ring_session.specs.declared.pending.Pending.{Pending}
-use Rattle.ring_session.specs.Pendings.{contains_call}
-use Rattle.ring_node_spec.specs.DueSends.{owner_due, due_when_heads_complete, places_past, due_at_regular}
+use Rattle.ring_session.specs.declared.pending_ticket.PendingTicket.{PendingTicket}
+use Rattle.ring_session.specs.TicketsState.{contains_call}
+use Rattle.ring_node_spec.specs.DueSends.{owner_due, due_when_heads_complete, uncommitted_places, due_at_regular}
 use Rattle.ring_node_spec.specs.EpochHistories.{epochs_after_event}
 use Rattle.ring_node_spec.specs.Nodes.{is_closed}
 use Rattle.ring_replication.specs.declared.delivery_context.DeliveryContext.{DeliveryContext}
-use Rattle.ring_replication.specs.declared.reach.LogWatermark.{LogWatermark}
-use Rattle.ring_replication.specs.declared.stage.ExchangeStage.{ExchangeStage}
-use Rattle.ring_replication.specs.declared.stage.ExchangeStage.TheVariants.{NotPrimary, Exchanging, Adopted}
+use Rattle.ring_replication.specs.declared.log_watermark.LogWatermark.{LogWatermark}
+use Rattle.ring_replication.specs.declared.exchange_stage.ExchangeStage.{ExchangeStage}
+use Rattle.ring_replication.specs.declared.exchange_stage.ExchangeStage.TheVariants.{NotPrimary, Exchanging, Adopted}
 
 -- The stage of the newest ring's exchange, from the messages received there
 
@@ -38,7 +38,7 @@ stage_by_exchange (Some w) e = Adopted
 
 -- the stage in a ring of these members after these messages
 abbrev pub stage_in : {A : Type 0} → Group → ℕ → List (Message A) → ExchangeStage A
-stage_in group members text = if is_primary group members then stage_by_exchange (complete_exchange_from (exchange_opening members) text) (after_all (exchange_opening members) text) else NotPrimary
+stage_in group members text = if is_primary group members then stage_by_exchange (complete_exchange_from (exchange_opening members) text) (exchange_after_messages (exchange_opening members) text) else NotPrimary
 
 -- The length of a ring's log after these messages, given the known log before the ring: 0 before the exchange is complete
 
@@ -58,14 +58,14 @@ watermarks_from group members ring k front (x ∷ xs) =
     record { number = x.number; places = watermark_of group members ring k (front ++ x ∷ []) } ∷ watermarks_from group members ring k (front ++ x ∷ []) xs
 
 -- the messages after a mark
-abbrev pub behind : {A : Type 0} → ℕ → List (Message A) → List (Message A)
-behind mark [] = []
-behind mark (x ∷ xs) = if nat_le x.number mark then behind mark xs else x ∷ xs
+abbrev pub messages_after : {A : Type 0} → ℕ → List (Message A) → List (Message A)
+messages_after mark [] = []
+messages_after mark (x ∷ xs) = if nat_le x.number mark then messages_after mark xs else x ∷ xs
 
 -- the watermarks that a mark doesn't cover; they are in the order of their numbers
-abbrev pub left : ℕ → List LogWatermark → List LogWatermark
-left mark [] = []
-left mark (r ∷ rest) = if nat_le r.number mark then left mark rest else r ∷ rest
+abbrev pub watermarks_above : ℕ → List LogWatermark → List LogWatermark
+watermarks_above mark [] = []
+watermarks_above mark (r ∷ rest) = if nat_le r.number mark then watermarks_above mark rest else r ∷ rest
 
 -- the places of the last watermark that a mark covers, or `places` if it covers none
 abbrev pub covered_places : ℕ → ℕ → List LogWatermark → ℕ
@@ -82,8 +82,8 @@ pub record HeldLog (A : Type 0) : Type 0 where
   pub snapshot : List ℕ
 
 -- the stored log at the opening: the log is empty, and there is no snapshot
-abbrev pub held_log_opening : {A : Type 0} → HeldLog A
-held_log_opening = record { log = empty; before = None; snapshot = [] }
+abbrev pub empty_held_history : {A : Type 0} → HeldLog A
+empty_held_history = record { log = log_opening; before = None; snapshot = [] }
 
 -- the log whose committed places are those at the end of the last step, if a snapshot was restored since; otherwise the
 -- log
@@ -116,7 +116,7 @@ pub record Replication (A : Type 0) : Type 0 where
 
 -- the replication of processor `me` of the group at the opening
 abbrev pub replication_opening : {A : Type 0} → Group → ℕ → Replication A
-replication_opening group me = record { group = group; me = me; epochs = epochs_opening me; held = held_log_opening; consistent = true }
+replication_opening group me = record { group = group; me = me; epochs = history_opening_of me; held = empty_held_history; consistent = true }
 
 -- the replication after the committed places are dropped, in the epochs too, if their snapshot is given
 abbrev pub replication_trimmed : {A : Type 0} → Replication A → Option (List ℕ) → Replication A
@@ -167,7 +167,7 @@ pub record IsReplicationKept {A : Type 0} (group : Group) (epochs : List (Epoch 
   pub in_ring : ring ≡ epoch.ring
   pub stands : stage ≡ stage_in group epoch.members epoch.heard
   pub safe : mark ≡ epoch.mark
-  pub unsafe : watermarks ≡ watermarks_from group epoch.members epoch.ring (known_log_of group older) (upto epoch.mark epoch.heard) (behind epoch.mark epoch.heard)
+  pub unsafe : watermarks ≡ watermarks_from group epoch.members epoch.ring (known_log_of group older) (messages_upto epoch.mark epoch.heard) (messages_after epoch.mark epoch.heard)
   pub logged : held.log ≡ retained_log (known_log_of group epochs)
   pub known : IsKnownLog (known_log_of group older)
   pub within : epoch.trimmed ≤ (known_log_of group (epoch ∷ older)).committed
@@ -194,8 +194,8 @@ IsReplicationConsistent group epochs consistent held ring stage mark watermarks 
 -- The effect of a message
 
 -- the calls of the unanswered tickets that aren't at these places
-abbrev pub calls_to_resend : {A : Type 0} → List (Pending A) → List (OneCall A) → List (Payload A)
-calls_to_resend pending calls = map (λ (p : Pending _). Call p.call) (filter (λ (p : Pending _). not (contains_call calls p.call)) pending)
+abbrev pub calls_to_resend : {A : Type 0} → List (PendingTicket A) → List (OneCall A) → List (Payload A)
+calls_to_resend pending calls = map (λ (p : PendingTicket _). Call p.call) (filter (λ (p : PendingTicket _). not (contains_call calls p.call)) pending)
 
 -- due of the owner at the message that makes something wanted
 abbrev pub owner_asked : {A : Type 0} → ℕ → HeldLog A → Option Wanted → Option Wanted → List (Payload A)
@@ -224,10 +224,10 @@ held_if delivery_context h None = h
 held_if delivery_context h (Some base) = held_log_adopted h delivery_context.ring base
 
 -- the calls due at the adoption, if there is a base and the ring runs
-abbrev pub calls_if : {A : Type 0} → DeliveryContext → List (Pending A) → HeldLog A → Option (Base A) → List (Payload A)
+abbrev pub calls_if : {A : Type 0} → DeliveryContext → List (PendingTicket A) → HeldLog A → Option (Base A) → List (Payload A)
 calls_if delivery_context pending h None = []
 calls_if delivery_context pending h (Some base) =
-    if_runs delivery_context.runs (calls_to_resend pending (places_past delivery_context.committed (held_log_adopted h delivery_context.ring base).log))
+    if_runs delivery_context.runs (calls_to_resend pending (uncommitted_places delivery_context.committed (held_log_adopted h delivery_context.ring base).log))
 
 -- the stage after the message: without a base the exchange is still open
 abbrev pub stage_if : {A : Type 0} → Exchange A → Option (Base A) → ExchangeStage A
@@ -235,18 +235,18 @@ stage_if e None = Exchanging e
 stage_if e (Some base) = Adopted
 
 -- the effect of a message after which the exchange is e; `places`, the owner's payloads, come before the calls
-abbrev pub base_effect : {A : Type 0} → DeliveryContext → List (Pending A) → HeldLog A → Exchange A → List (Payload A) → Option (Base A) → MessageEffect A
+abbrev pub base_effect : {A : Type 0} → DeliveryContext → List (PendingTicket A) → HeldLog A → Exchange A → List (Payload A) → Option (Base A) → MessageEffect A
 base_effect delivery_context pending h e places base =
     record { stage = stage_if e base; fits = fits_if h.log base; held = held_if delivery_context h base; due = places ++ calls_if delivery_context pending h base }
 
 -- the effect of a message on an exchange that isn't complete; payloads are due only if the ring runs
-abbrev pub exchanging_effect : {A : Type 0} → DeliveryContext → List (Pending A) → HeldLog A → Exchange A → Message A → MessageEffect A
+abbrev pub exchanging_effect : {A : Type 0} → DeliveryContext → List (PendingTicket A) → HeldLog A → Exchange A → Message A → MessageEffect A
 exchanging_effect delivery_context pending h e x =
     base_effect delivery_context pending h (exchange_drained (heard e x.sender x.payload))
     (if_runs delivery_context.runs (owner_asked delivery_context.me h (wanted e) (wanted (exchange_drained (heard e x.sender x.payload))))) (base_at e x.sender x.payload)
 
 -- the effect of a message of the newest ring, by the stage: once the ring is adopted, the message's calls are appended to the log
-abbrev pub message_effect : {A : Type 0} → DeliveryContext → List (Pending A) → HeldLog A → ExchangeStage A → Message A → MessageEffect A
+abbrev pub message_effect : {A : Type 0} → DeliveryContext → List (PendingTicket A) → HeldLog A → ExchangeStage A → Message A → MessageEffect A
 message_effect delivery_context pending h NotPrimary x = record { stage = NotPrimary; fits = true; held = h; due = [] }
 message_effect delivery_context pending h (Exchanging e) x = exchanging_effect delivery_context pending h e x
 message_effect delivery_context pending h Adopted x =
@@ -285,7 +285,7 @@ pub record StepContext (A : Type 0) : Type 0 where
   pub group : Group
   pub me : ℕ
   pub running : Option RingId
-  pub pending : List (Pending A)
+  pub pending : List (PendingTicket A)
   pub committed : ℕ
   pub trimmed : ℕ
   pub snapshot : List ℕ
@@ -298,7 +298,7 @@ bytes_at m k = if nat_lt m.trimmed k.trimmed then k.snapshot else m.snapshot
 -- places
 abbrev pub due_sends_when_complete : {A : Type 0} → StepContext A → List (Epoch A) → Exchange A → Exchange A → List (Payload A)
 due_sends_when_complete m epochs old new =
-    if is_exchange_complete new && not (is_exchange_complete old) then calls_to_resend m.pending (places_past m.committed (retained_log (known_log_of m.group epochs))) else []
+    if is_exchange_complete new && not (is_exchange_complete old) then calls_to_resend m.pending (uncommitted_places m.committed (retained_log (known_log_of m.group epochs))) else []
 
 -- due when the last Head is received: the owner's payloads
 abbrev pub owner_due_sends : {A : Type 0} → StepContext A → KnownLog A → Exchange A → Exchange A → List (Payload A)
@@ -313,7 +313,7 @@ due_sends_between m before epochs old new = owner_due_sends m (known_log_of m.gr
 abbrev pub due_sends_in_epoch : {A : Type 0} → StepContext A → Epoch A → List (Epoch A) → Message A → List (Epoch A) → List (Payload A)
 due_sends_in_epoch m s before x epochs =
     if is_primary m.group s.members
-    then due_sends_between m before epochs (after_all (exchange_opening s.members) s.heard) (after_all (exchange_opening s.members) (s.heard ++ x ∷ []))
+    then due_sends_between m before epochs (exchange_after_messages (exchange_opening s.members) s.heard) (exchange_after_messages (exchange_opening s.members) (s.heard ++ x ∷ []))
     else []
 
 -- due at a message of the newest epoch, if its ring runs

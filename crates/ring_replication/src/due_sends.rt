@@ -13,7 +13,7 @@ use crate::held_log::HeldLog;
 use ring_base::Fault;
 use ring_log::{Log, Wanted, pieces_of};
 use ring_payload::{Call, MAX_SNAPSHOT, Payload};
-use ring_session::{Pending, contains_call, copy_of};
+use ring_session::{PendingTicket, contains_call, copy_of};
 use std::alloc::Allocator;
 
 /// Appends the owner's payloads to `due`, if the message was the last Head, the ring runs and this node is the owner.
@@ -38,7 +38,7 @@ pub(crate) fn add_owner_sends<A: Allocator + Copy + Drop>(
     match (before, after) {
         (None, Some(wanted)) => {
             if delivery_context.runs && wanted.owner == delivery_context.me {
-                add_wanted(alloc, held, &wanted, due)
+                add_wanted_sends(alloc, held, &wanted, due)
             } else {
                 Ok(())
             }
@@ -51,7 +51,7 @@ pub(crate) fn add_owner_sends<A: Allocator + Copy + Drop>(
 ///
 /// A wanted snapshot is sent only if it is the one that the node keeps. If none is wanted, no wanted place may be
 /// dropped.
-fn add_wanted<A: Allocator + Copy + Drop>(
+fn add_wanted_sends<A: Allocator + Copy + Drop>(
     alloc: A,
     held: &HeldLog<A>,
     wanted: &Wanted,
@@ -119,8 +119,8 @@ fn add_parts<A: Allocator + Copy>(
 /// Errors: `Memory` if an allocation fails; the contents of `due` are then unspecified.
 ///
 /// Rules: The replicated log 10
-pub(crate) fn add_calls<A: Allocator + Copy + Drop>(
-    pending: &[Pending<A>],
+pub(crate) fn add_pending_calls<A: Allocator + Copy + Drop>(
+    pending: &[PendingTicket<A>],
     places: &[Call<A>],
     due: &mut Vec<Payload<A>, A>,
 ) -> Result<(), Fault>

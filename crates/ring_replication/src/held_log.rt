@@ -6,7 +6,7 @@ ghost use Rattle.std.specs.Prelude.{◌≡◌, ◌+◌, ◌∷◌, [], true, is_
 ghost use Rattle.ring_base.specs.Prefixes.{IsListPrefix};
 ghost use Rattle.ring_base.specs.declared.fault.Fault.TheVariants.{Memory};
 ghost use Rattle.ring_log.specs.Logs.{appended, committed_upto, committed_log, committed_calls, log_length, is_log_length, is_adoptable};
-ghost use Rattle.ring_replication.specs.Replications.{held_log_opening, reported_log, held_log_adopted, held_log_trimmed};
+ghost use Rattle.ring_replication.specs.Replications.{empty_held_history, reported_log, held_log_adopted, held_log_trimmed};
 
 use ring_base::{Fault, RingId};
 use ring_log::{Adoption, Base, Log, Snapshot};
@@ -54,7 +54,7 @@ impl<A: Allocator + Copy + Drop> HeldLog<A> {
     ///
     /// Rules: The replicated log 1
     pub(crate) fn new(alloc: A) -> HeldLog<A>
-        ensures { result ≡ held_log_opening }
+        ensures { result ≡ empty_held_history }
     {
         HeldLog {
             log: Log::new(alloc),
@@ -75,7 +75,7 @@ impl<A: Allocator + Copy + Drop> HeldLog<A> {
     /// Returns the log as it was at the end of the last step, or `None` if the present step has restored no snapshot.
     ///
     /// Rules: The replicated log 6
-    pub fn before(&self) -> Option<&Log<A>>
+    pub fn log_before_restore(&self) -> Option<&Log<A>>
         ensures { option_map (λ log. log.now) result ≡ self.now.before }
     {
         self.before.as_ref()
@@ -134,14 +134,14 @@ impl<A: Allocator + Copy + Drop> HeldLog<A> {
             Adoption::Refused => Ok(false),
             Adoption::Joined => Ok(true),
             Adoption::Restored(snapshot, before) => {
-                self.restored(snapshot, before);
+                self.note_restore(snapshot, before);
                 Ok(true)
             }
         }
     }
 
     /// Records that `snapshot` was restored, and keeps `before`, the log as it was before.
-    fn restored(&mut self, snapshot: Snapshot<A>, before: Log<A>)
+    fn note_restore(&mut self, snapshot: Snapshot<A>, before: Log<A>)
         ensures log { self.new.log ≡ self.old.log }
         ensures before { self.new.before ≡ Some (unwrap_or self.old.before before) }
         ensures snapshot { self.new.snapshot ≡ snapshot }
@@ -161,7 +161,7 @@ impl<A: Allocator + Copy + Drop> HeldLog<A> {
     /// Errors: `Memory` if an allocation fails; nothing has then changed.
     ///
     /// Rules: The replicated log 9 and 11
-    pub(crate) fn append(&mut self, call: Call<A>) -> Result<bool, Fault>
+    pub(crate) fn append_call(&mut self, call: Call<A>) -> Result<bool, Fault>
         ensures fits { IfOk result (λ fits. fits ≡ is_log_length (log_length self.old.log + 1)) }
         ensures held { OnOk result (is_log_length (log_length self.old.log + 1) ≡ true
             → self.new ≡ record self.old { log = appended self.old.log (call ∷ []) }) }
@@ -180,14 +180,14 @@ impl<A: Allocator + Copy + Drop> HeldLog<A> {
     /// Errors: `Memory` if an allocation fails; nothing has then changed.
     ///
     /// Rules: The replicated log 9 and 11
-    pub(crate) fn append_all(&mut self, calls: &[Call<A>]) -> Result<bool, Fault>
+    pub(crate) fn append_call_list(&mut self, calls: &[Call<A>]) -> Result<bool, Fault>
         ensures fits { IfOk result (λ fits. fits ≡ is_log_length (log_length self.old.log + length calls.now)) }
         ensures held { OnOk result (is_log_length (log_length self.old.log + length calls.now) ≡ true
             → self.new ≡ record self.old { log = appended self.old.log calls.now }) }
         ensures front { IsListPrefix (committed_calls (reported_log self.old)) (committed_calls (reported_log self.new)) }
         ensures refused { IfErr result (λ fault. fault ≡ Memory) }
     {
-        self.log.append_all(calls)
+        self.log.append_all_if_room(calls)
     }
 
     /// Raises the log's committed length to `n`, or to its length if that is less.
@@ -207,7 +207,7 @@ impl<A: Allocator + Copy + Drop> HeldLog<A> {
     /// Errors: `Memory` if an allocation fails; nothing has then changed.
     ///
     /// Rules: The replicated log 20
-    pub(crate) fn trim(&mut self, snapshot: Snapshot<A>) -> Result<Log<A>, Fault>
+    pub(crate) fn drop_committed(&mut self, snapshot: Snapshot<A>) -> Result<Log<A>, Fault>
         ensures dropped { IfOk result (λ log. log ≡ committed_log self.old.log) }
         ensures ok { OnOk result (self.new ≡ held_log_trimmed self.old (Some snapshot)) }
         ensures err { OnErr result (self.new ≡ self.old) }

@@ -9,14 +9,14 @@
 
 mod delivery_context;
 mod due_sends;
+mod epoch_history;
+mod exchange_stage;
 mod held_log;
-mod history;
-mod reach;
-mod receiving;
+mod log_watermark;
+mod message_effects;
 mod replication;
-mod stage;
 
+pub use epoch_history::EpochHistory;
 pub use held_log::HeldLog;
-pub use history::EpochHistory;
 pub use replication::Replication;
 pub use ring_node_spec::Input;

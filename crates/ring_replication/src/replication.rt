@@ -1,6 +1,7 @@
 //! A node's log, driven by the outputs of its core.
 //!
-//! `hear` and `install_ring` are functions of their own to keep their large stack slots out of their caller.
+//! `apply_message_in_ring` and `install_ring` are functions of their own to keep their large stack slots out of their
+//! caller.
 //!
 //! Rules: The replicated log 1, 2, 7 to 12 and 20
 
@@ -11,25 +12,25 @@ ghost use Rattle.ring_log.specs.Logs.{committed_calls, committed_upto, committed
 ghost use Rattle.ring_log.specs.Epochs.{epochs_with_message, epochs_with_mark, epochs_with_sends, epoch_opening};
 ghost use Rattle.ring_log.specs.KnownLog.{is_known_log_sound, known_log_of, retained_log};
 ghost use Rattle.ring_replication.specs.Replications.{replication_opening, replication_trimmed, StepContext as OneStepContext, due_sends_on_message, due_sends_at, due_sends_by};
-ghost use Rattle.ring_replication.specs.Replications.{is_running, is_risen, rises_at, rises, handed_if, covered_places, left, reported_log, IsRestoredSnapshotHeld, IsHeldLogContinued, HasSoundEpochs};
+ghost use Rattle.ring_replication.specs.Replications.{is_running, is_risen, rises_at, rises, handed_if, covered_places, watermarks_above, reported_log, IsRestoredSnapshotHeld, IsHeldLogContinued, HasSoundEpochs};
 ghost use Rattle.ring_node_spec.specs.Nodes.{is_closed};
 ghost use Rattle.ring_node_spec.specs.DueSends.{due_at_regular};
 ghost use Rattle.ring_node_spec.specs.EpochHistories.{epochs_after_event, epochs_after};
 
 use crate::delivery_context::DeliveryContext;
-use crate::held_log::HeldLog;
-use crate::history::{
-    EpochHistory, dropped, epochs_opening, heard, history_with_call, history_with_epoch,
-    history_with_mark, history_with_sends,
+use crate::epoch_history::{
+    EpochHistory, history_opening_of, history_with_call, history_with_epoch, history_with_mark,
+    history_with_message, history_with_sends, history_with_trim,
 };
-use crate::reach::{LogWatermark, copy_watermarks, pop_covered};
-use crate::receiving::{hear, watermark_at};
-use crate::stage::{ExchangeStage, opening_stage};
+use crate::exchange_stage::{ExchangeStage, opening_stage};
+use crate::held_log::HeldLog;
+use crate::log_watermark::{LogWatermark, copy_watermarks, pop_covered};
+use crate::message_effects::{apply_message, watermark_at};
 use ring_base::{Fault, Fixed, Ghost, Proc, ProcSet, RingId};
 use ring_log::{Log, Snapshot};
 use ring_node_spec::Out;
 use ring_payload::{Call, Payload};
-use ring_session::Pending;
+use ring_session::PendingTicket;
 use ring_wire::Message;
 use std::alloc::{AllocError, Allocator, Global};
 use std::collections::VecDeque;
@@ -103,11 +104,11 @@ impl<A: Allocator + Copy + Drop> Replication<A> {
             me,
             held: HeldLog::new(alloc),
             ring: RingId { seq: 0, rep: me },
-            stage: opening_stage(alloc, fixed, ProcSet::only(me)),
+            stage: opening_stage(alloc, fixed, ProcSet::singleton(me)),
             mark: 0,
             watermarks: VecDeque::new(alloc),
             consistent: true,
-            epochs: epochs_opening(me),
+            epochs: history_opening_of(me),
         }
     }
 
@@ -129,7 +130,7 @@ impl<A: Allocator + Copy + Drop> Replication<A> {
     /// Returns the stored log, with the snapshot of its dropped places.
     ///
     /// Rules: The replicated log 1
-    pub fn held(&self) -> &HeldLog<A>
+    pub fn stored_log(&self) -> &HeldLog<A>
         ensures held { result.now ≡ self.now.held }
         ensures log { self.now.consistent ≡ true → self.now.held.log ≡ retained_log (known_log_of self.now.group self.now.epochs) }
         ensures restored { self.now.consistent ≡ true → IsRestoredSnapshotHeld (known_log_of self.now.group self.now.epochs) self.now.held.snapshot }
@@ -144,7 +145,7 @@ impl<A: Allocator + Copy + Drop> Replication<A> {
     /// Places may be dropped only then.
     ///
     /// Rules: The replicated log 4 and 20
-    pub fn is_closed(&self) -> bool
+    pub fn is_exchange_closed(&self) -> bool
         ensures { self.now.consistent ≡ true → result ≡ is_closed self.now.group self.now.epochs }
     {
         match &self.stage {
@@ -177,7 +178,7 @@ impl<A: Allocator + Copy + Drop> Replication<A> {
     pub fn apply_outputs(
         &mut self,
         running: &Option<RingId>,
-        pending: &[Pending<A>],
+        pending: &[PendingTicket<A>],
         committed: u64,
         outs: &[Out<A>],
         due: &mut Vec<Payload<A>, A>,
@@ -206,16 +207,16 @@ impl<A: Allocator + Copy + Drop> Replication<A> {
         ensures refused { IfErr result (λ fault. fault ≡ Memory) }
     {
         for out in outs {
-            self.go(running, pending, committed, out, due)?;
+            self.apply_output_if_consistent(running, pending, committed, out, due)?;
         }
         Ok(())
     }
 
     /// Applies one output, unless the log is already inconsistent.
-    fn go(
+    fn apply_output_if_consistent(
         &mut self,
         running: &Option<RingId>,
-        pending: &[Pending<A>],
+        pending: &[PendingTicket<A>],
         committed: u64,
         out: &Out<A>,
         due: &mut Vec<Payload<A>, A>,
@@ -241,7 +242,7 @@ impl<A: Allocator + Copy + Drop> Replication<A> {
         ensures refused { IfErr result (λ fault. fault ≡ Memory) }
     {
         if self.is_consistent() {
-            self.take(running, pending, committed, out, due)
+            self.apply_output(running, pending, committed, out, due)
         } else {
             Ok(())
         }
@@ -249,10 +250,10 @@ impl<A: Allocator + Copy + Drop> Replication<A> {
 
     /// Applies one output.
     #[tactic(auto, using(crate::proofs::ReplicationSteps::goes_none))]
-    fn take(
+    fn apply_output(
         &mut self,
         running: &Option<RingId>,
-        pending: &[Pending<A>],
+        pending: &[PendingTicket<A>],
         committed: u64,
         out: &Out<A>,
         due: &mut Vec<Payload<A>, A>,
@@ -282,11 +283,11 @@ impl<A: Allocator + Copy + Drop> Replication<A> {
     {
         match out {
             Out::Agreed(ring, _, message) => {
-                let runs = is_running(running, ring);
-                self.hear(runs, pending, committed, message, due)
+                let runs = is_running_ring(running, ring);
+                self.apply_message_in_ring(runs, pending, committed, message, due)
             }
             Out::Safe(_, upto) => {
-                self.mark(*upto);
+                self.raise_safe_mark(*upto);
                 Ok(())
             }
             Out::Regular(ring, members) => self.install_ring(*ring, *members, due),
@@ -300,10 +301,10 @@ impl<A: Allocator + Copy + Drop> Replication<A> {
 
     /// Applies a message of the newest ring.
     #[inline(never)]
-    fn hear(
+    fn apply_message_in_ring(
         &mut self,
         runs: bool,
-        pending: &[Pending<A>],
+        pending: &[PendingTicket<A>],
         committed: u64,
         message: &Message<A>,
         due: &mut Vec<Payload<A>, A>,
@@ -336,7 +337,7 @@ impl<A: Allocator + Copy + Drop> Replication<A> {
             me: self.me,
             committed,
         };
-        let fits = hear(
+        let fits = apply_message(
             self.alloc,
             &delivery_context,
             pending,
@@ -348,13 +349,13 @@ impl<A: Allocator + Copy + Drop> Replication<A> {
         let places = watermark_at(&self.stage, self.held.log());
         self.watermarks.push_back(LogWatermark { number, places })?;
         commit_covered(&mut self.watermarks, self.mark, &mut self.held);
-        self.epochs = heard(&self.epochs, message);
+        self.epochs = history_with_message(&self.epochs, message);
         self.consistent = fits;
         Ok(())
     }
 
     /// Raises the safe mark to `upto`.
-    fn mark(&mut self, upto: u64)
+    fn raise_safe_mark(&mut self, upto: u64)
         requires consistent { self.old.consistent ≡ true }
         requires risen { is_risen self.old.epochs upto ≡ true }
         ensures epochs { self.new.epochs ≡ epochs_with_mark upto self.old.epochs }
@@ -446,8 +447,8 @@ impl<A: Allocator + Copy + Drop> Replication<A> {
         let Some(snapshot) = snapshot else {
             return Ok(None);
         };
-        let log = self.held.trim(snapshot)?;
-        self.epochs = dropped(&self.epochs, log.committed_length());
+        let log = self.held.drop_committed(snapshot)?;
+        self.epochs = history_with_trim(&self.epochs, log.committed_length());
         Ok(Some(log))
     }
 
@@ -469,7 +470,7 @@ fn commit_covered<A: Allocator + Copy + Drop>(
     mark: u64,
     held: &mut HeldLog<A>,
 )
-    ensures watermarks { watermarks.new.items ≡ left mark watermarks.old.items }
+    ensures watermarks { watermarks.new.items ≡ watermarks_above mark watermarks.old.items }
     ensures held { held.new ≡ record held.old { log = committed_upto held.old.log (covered_places mark 0 watermarks.old.items) } }
     ensures front { IsListPrefix (committed_calls (reported_log held.old)) (committed_calls (reported_log held.new)) }
 {
@@ -478,7 +479,7 @@ fn commit_covered<A: Allocator + Copy + Drop>(
 }
 
 /// Returns whether `ring` is the ring in which the core is Operational.
-fn is_running(running: &Option<RingId>, ring: &RingId) -> bool
+fn is_running_ring(running: &Option<RingId>, ring: &RingId) -> bool
     ensures { result ≡ is_running running.now ring.now }
 {
     match running {

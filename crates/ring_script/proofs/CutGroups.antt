@@ -9,7 +9,7 @@ use Rattle.std.proofs.lemmas.Option.{option_and_then_some}
 use Rattle.ring_base.specs.Group.{Group}
 use Rattle.ring_base.specs.Members.{has_member, member_had, nobody_member, only_members, everybody_members, union_members, intersection_members}
 use Rattle.ring_base.specs.Processors.{IsProc, IsMember, max_processors, has, nobody, only, everybody, union, intersection}
-use Rattle.ring_script.specs.Cuts.{AreConnected, HasNumber, Names, member_set, group_of, groups_of, union_of_groups, are_apart}
+use Rattle.ring_script.specs.Cuts.{AreConnected, HasNumber, Names, member_set, parse_group, groups_of, union_of_groups, are_apart}
 use Rattle.ring_script.specs.Cuts.{is_cut, placed_from, table_after, table_of, cut_at}
 use Rattle.ring_script.specs.Numbers.{node_of}
 use Rattle.ring_script.specs.Reading.{◌>>=◌}
@@ -219,20 +219,20 @@ gathered_members nodes set (number ∷ numbers) group a read =
     ])
 
 -- The nodes of the group that a word denotes are those that it names.
-group_of-members : (nodes : Group) (word : List ℕ) (group a : ℕ) → group_of nodes word ≡ Some group → IsMember group a ↔ Names nodes word a
-unfolding group_of
-group_of-members nodes word group a read =
+parse_group-members : (nodes : Group) (word : List ℕ) (group a : ℕ) → parse_group nodes word ≡ Some group → IsMember group a ↔ Names nodes word a
+unfolding parse_group
+parse_group-members nodes word group a read =
     let members = gathered_members nodes nobody (pieces 44 word) group a read in
     (λ m. elim (members.0 m) [ inl none ↦ absurd (nobody_member a none) | inr named ↦ named ], λ named. members.1 (inr named))
 
 -- Each group is denoted by a word.
 by_a_word : (nodes : Group) (words : List (List ℕ)) (groups : List ℕ) (group : ℕ)
     → groups_of nodes words ≡ Some groups → Contains groups group → (word : List ℕ) × Contains words word
-    × (group_of nodes word ≡ Some group)
+    × (parse_group nodes word ≡ Some group)
 unfolding groups_of
 by_a_word nodes [] groups group read found = let none : groups ≡ [] = cc in let inside = found.1 in absurd (omega (arith, ap length none))
 by_a_word nodes (word ∷ words) groups group read found =
-    option_and_then_some (λ first. groups_of nodes words >>= λ others. Some (first ∷ others)) (group_of nodes word) groups read (λ first told rest.
+    option_and_then_some (λ first. groups_of nodes words >>= λ others. Some (first ∷ others)) (parse_group nodes word) groups read (λ first told rest.
     option_and_then_some (λ others. Some (first ∷ others)) (groups_of nodes words) groups rest (λ others more all.
     let same : groups ≡ first ∷ others = cc in
     elim (Contains-cons_cases first others group (rw same at found)) [
@@ -243,11 +243,11 @@ by_a_word nodes (word ∷ words) groups group read found =
 -- Each word denotes one of the groups.
 of_a_word : (nodes : Group) (words : List (List ℕ)) (groups : List ℕ) (word : List ℕ)
     → groups_of nodes words ≡ Some groups → Contains words word → (group : ℕ) × Contains groups group
-    × (group_of nodes word ≡ Some group)
+    × (parse_group nodes word ≡ Some group)
 unfolding groups_of
 of_a_word nodes [] groups word read found = absurd (omega (arith, found.1))
 of_a_word nodes (first ∷ words) groups word read found =
-    option_and_then_some (λ group. groups_of nodes words >>= λ others. Some (group ∷ others)) (group_of nodes first) groups read (λ group told rest.
+    option_and_then_some (λ group. groups_of nodes words >>= λ others. Some (group ∷ others)) (parse_group nodes first) groups read (λ group told rest.
     option_and_then_some (λ others. Some (group ∷ others)) (groups_of nodes words) groups rest (λ others more all.
     let same : groups ≡ group ∷ others = cc in
     elim (Contains-cons_cases first words word found) [
@@ -262,10 +262,10 @@ named_together : (nodes : Group) (words : List (List ℕ)) (groups : List ℕ) (
 named_together nodes words groups a b read = (
   λ t.
       let one = by_a_word nodes words groups t.0 read t.1 in
-      (one.0, one.1, (group_of-members nodes one.0 t.0 a one.2).0 t.2, (group_of-members nodes one.0 t.0 b one.2).0 t.3),
+      (one.0, one.1, (parse_group-members nodes one.0 t.0 a one.2).0 t.2, (parse_group-members nodes one.0 t.0 b one.2).0 t.3),
   λ n.
       let one = of_a_word nodes words groups n.0 read n.1 in
-      (one.0, one.1, (group_of-members nodes n.0 one.0 a one.2).1 n.2, (group_of-members nodes n.0 one.0 b one.2).1 n.3),
+      (one.0, one.1, (parse_group-members nodes n.0 one.0 a one.2).1 n.2, (parse_group-members nodes n.0 one.0 b one.2).1 n.3),
 )
 
 -- Under the cut that words denote, two nodes are connected if one word names both.

@@ -12,14 +12,14 @@ use Rattle.std.proofs.lemmas.Nat.{and_le_l, and_comm, or_comm}
 use Rattle.std.proofs.lemmas.Nat.Bits.{bit_at_and, bit_at_or, same_from_bits}
 use Rattle.ring_base.specs.Group.{Group}
 use Rattle.ring_base.specs.Processors.{max_processors, has, nobody, everybody, union, intersection}
-use Rattle.ring_script.specs.Cuts.{group_of, groups_of, union_of_groups, are_apart, is_cut, placed_from, table_after, table_of, cut_at}
+use Rattle.ring_script.specs.Cuts.{parse_group, groups_of, union_of_groups, are_apart, is_cut, placed_from, table_after, table_of, cut_at}
 use Rattle.ring_script.specs.Reading.{◌>>=◌}
 
 -- The cut that the words complete, after `count` groups of these nodes with this table.
 unfoldable pub cut_after : Group → ℕ → ℕ → List ℕ → List (List ℕ) → Option (List ℕ × List (List ℕ))
 cut_after nodes count placed table [] = if nat_le 2 count && (placed == everybody nodes.count) then Some (table, []) else None
 cut_after nodes count placed table (word ∷ words) = do
-  group ← group_of nodes word
+  group ← parse_group nodes word
   (if intersection placed group == nobody then cut_after nodes (min (count + 1) 255) (union placed group) (placed_from 1 group table) words else None)
 
 -- ---- sets.
@@ -139,7 +139,7 @@ cut_after-groups nodes count placed table [] =
     let same : count + 0 ≡ count = omega arith in
     rw (intersection-nobody placed, union-nobody placed, same) refl
 cut_after-groups nodes count placed table (word ∷ words) =
-    cut_word nodes count placed table words (group_of nodes word)
+    cut_word nodes count placed table words (parse_group nodes word)
     (λ group. cut_after-groups nodes (min (count + 1) 255) (union placed group) (placed_from 1 group table) words)
 
 shuffle : (a t e : Bool) → (a && (t && e)) ≡ ((t && a) && e)

@@ -19,7 +19,7 @@ use Rattle.ring_base.specs.declared.fault.Fault.TheVariants.{Memory, BadFrame, B
 use Rattle.ring_payload.specs.Calls.{IsNewCall}
 use Rattle.ring_script.specs.declared.vocabulary.Argument.{Argument}
 use Rattle.ring_script.specs.declared.vocabulary.Argument.TheVariants.{Key, Value, Name}
-use Rattle.ring_script.specs.HexWords.{hex_bytes_of}
+use Rattle.ring_script.specs.HexWords.{decode_hex_word}
 use Rattle.ring_script.specs.Numbers.{is, word_at, number_at}
 use Rattle.ring_script.specs.Operations.{is_name, argument_at, argument_after, arguments_after, OperationForm, is_short, are_short, form_of, named_at, raw_at, operation_at}
 use Rattle.ring_script.specs.Reading.{IsBadScriptOrMemory}
@@ -86,8 +86,8 @@ ok_from_some (Ok y) x e = ap Ok (same_Some y x e)
 ok_from_some (Err y) x e = absurd cc
 
 -- The bytes that a word encodes.
-encoded_short : (most : ℕ) (word bytes : List ℕ) → hex_bytes_of most word ≡ Some bytes → length bytes ≤ most
-unfolding hex_bytes_of
+encoded_short : (most : ℕ) (word bytes : List ℕ) → decode_hex_word most word ≡ Some bytes → length bytes ≤ most
+unfolding decode_hex_word
 encoded_short most word bytes e =
     let is_short = nat_le 1 (length word) && nat_le (length word) (2 * most) in
     let is_lower = not (list_any is_ascii_uppercase word) in
@@ -104,7 +104,7 @@ raw_short : (words : List (List ℕ)) (x : List ℕ × List (List ℕ)) → raw_
 unfolding raw_at
 raw_short words x e =
     let (word, at, next) = and_then_some _ (word_at words) x e in
-    let (bytes, read, made) = and_then_some _ (hex_bytes_of 1024 word.0) x next in
+    let (bytes, read, made) = and_then_some _ (decode_hex_word 1024 word.0) x next in
     subst (λ (y : List ℕ × List (List ℕ)). length y.0 ≤ 1024) (same_Some (bytes, word.1) x made) (encoded_short 1024 word.0 bytes read)
 
 pub operation_short : (forms : List OperationForm) (words : List (List ℕ)) (x : List ℕ × List (List ℕ)) → are_short forms ≡ true

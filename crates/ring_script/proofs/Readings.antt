@@ -11,7 +11,7 @@ use Rattle.ring_script.specs.declared.scripts.ScriptFault.TheVariants.{Memory, A
 use Rattle.ring_script.specs.Faults.{IsOfText}
 use Rattle.ring_script.specs.Lines.{LineRequest, request_of, request_in}
 use Rattle.ring_script.specs.Operations.{OperationForm}
-use Rattle.ring_script.specs.Scripts.{unless_skipped, nodes_of, then_request, requests_in, then_nodes, nodes_in, numbered_by, Faults}
+use Rattle.ring_script.specs.Scripts.{unless_skipped, parse_node_words, then_request, requests_in, then_nodes, nodes_in, numbered_by, Faults}
 use Rattle.ring_script.specs.Votes.{votes_of, is_votes, then_votes, votes_in}
 use Rattle.ring_script.specs.Words.{LinesLeft, are_ascii, is_skipped}
 
@@ -70,7 +70,7 @@ pub nodes_low : (before : ℕ) (lines : List (List ℕ)) (line : ℕ) → nodes_
 unfolding nodes_in
 nodes_low before [] line e = let same : before + 1 ≡ line = cc in omega arith
 nodes_low before (first ∷ lines) line e =
-    first_low (before + 1) line (unless_skipped (nodes_of) first) lines (nodes_in (before + 1) lines)
+    first_low (before + 1) line (unless_skipped (parse_node_words) first) lines (nodes_in (before + 1) lines)
     (omega arith) (nodes_low (before + 1) lines line) e
 
 voted_low : (number line : ℕ) (voted : Option Group) (lines : List (List ℕ)) → 1 ≤ number → then_votes number voted lines ≡ Err line → 1 ≤ line

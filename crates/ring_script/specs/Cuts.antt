@@ -16,8 +16,8 @@ member_set nodes set (number ∷ numbers) = do
   if has set node then None else member_set nodes (union set (only node)) numbers
 
 -- The set that the word denotes: node numbers separated by single commas.
-unfoldable pub group_of : Group → List ℕ → Option ℕ
-group_of nodes word = member_set nodes nobody (pieces 44 word)
+unfoldable pub parse_group : Group → List ℕ → Option ℕ
+parse_group nodes word = member_set nodes nobody (pieces 44 word)
 
 -- One of these words is the node's number.
 abbrev pub HasNumber : Group → List (List ℕ) → ℕ → Type 0
@@ -31,7 +31,7 @@ Names nodes word node = HasNumber nodes (pieces 44 word) node
 unfoldable pub groups_of : Group → List (List ℕ) → Option (List ℕ)
 groups_of nodes [] = Some []
 groups_of nodes (word ∷ words) = do
-  group ← group_of nodes word
+  group ← parse_group nodes word
   others ← groups_of nodes words
   Some (group ∷ others)
 

@@ -2,7 +2,7 @@
 -- Formats: Scripts
 use Rattle.std.specs.Prelude.{◌≡◌, ℕ, List, [], ◌∷◌, ◌++◌, map, codes, Some, None, Ok, Err}
 use Rattle.std.specs.List.{join_with_byte}
-use Rattle.ring_base.specs.declared.kind.Kind.TheVariants.{Loss}
+use Rattle.ring_base.specs.declared.timeout_kind.Kind.TheVariants.{Loss}
 use Rattle.ring_script.specs.Lines.{Call, Deliver, Timeout, Noise, Stop, Cut, Heal, Pump, Show}
 use Rattle.ring_script.specs.Operations.{operation_at}
 use Rattle.ring_script.specs.Scripts.{Schedule, script_of}

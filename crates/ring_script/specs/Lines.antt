@@ -2,12 +2,12 @@
 -- Formats: Scripts
 use Rattle.std.specs.Prelude.{ℕ, ◌^◌, ◌-◌, ◌≤◌, Bool, false, ◌==◌, if◌then◌else◌, List, codes, Option, Some, None, IfSome}
 use Rattle.ring_base.specs.Group.{Group}
-use Rattle.ring_base.specs.declared.kind.Kind.{Kind}
-use Rattle.ring_base.specs.declared.kind.Kind.TheVariants as kinds
+use Rattle.ring_base.specs.declared.timeout_kind.Kind.{Kind}
+use Rattle.ring_base.specs.declared.timeout_kind.Kind.TheVariants as kinds
 use Rattle.ring_script.specs.declared.line.ScriptLine.{ScriptLine}
 use Rattle.ring_script.specs.declared.line.ScriptLine.TheVariants as lines
 use Rattle.ring_script.specs.Cuts.{cut_at}
-use Rattle.ring_script.specs.HexWords.{hex_bytes_of}
+use Rattle.ring_script.specs.HexWords.{decode_hex_word}
 use Rattle.ring_script.specs.Numbers.{is, decimal_of, word_at, number_at, node_at}
 use Rattle.ring_script.specs.Operations.{OperationForm, operation_at}
 use Rattle.ring_script.specs.Reading.{◌>>=◌}
@@ -117,7 +117,7 @@ unfoldable pub noise_at : Group → List (List ℕ) → Option (LineRequest × L
 noise_at nodes words = do
   node ← node_at nodes words
   word ← word_at node.1
-  bytes ← hex_bytes_of max_frame_bytes word.0
+  bytes ← decode_hex_word max_frame_bytes word.0
   Some (Noise node.0 bytes, word.1)
 
 -- `stop NODE`.

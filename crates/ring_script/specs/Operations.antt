@@ -8,7 +8,7 @@ use Rattle.ring_payload.specs.Limits.{max_operation}
 use Rattle.ring_script.specs.declared.vocabulary.Argument.{Argument}
 use Rattle.ring_script.specs.declared.vocabulary.Argument.TheVariants.{Key, Value, Name}
 use Rattle.ring_script.specs.declared.vocabulary.OperationForm as declared
-use Rattle.ring_script.specs.HexWords.{hex_bytes_of}
+use Rattle.ring_script.specs.HexWords.{decode_hex_word}
 use Rattle.ring_script.specs.Numbers.{is, word_at, number_at}
 use Rattle.ring_script.specs.Reading.{◌>>=◌}
 
@@ -73,7 +73,7 @@ named_at forms name words = do
 unfoldable pub raw_at : List (List ℕ) → Option (List ℕ × List (List ℕ))
 raw_at words = do
   word ← word_at words
-  bytes ← hex_bytes_of max_operation word.0
+  bytes ← decode_hex_word max_operation word.0
   Some (bytes, word.1)
 
 -- The bytes of the operation that the next words denote, for an object with these forms, and the words after them.

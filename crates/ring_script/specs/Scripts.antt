@@ -22,8 +22,8 @@ use Rattle.ring_script.specs.Words.{LinesLeft, words_of, whole, are_ascii, is_sk
 -- ---- lines.
 
 -- The nodes that a line `nodes N` gives, with one vote each.
-unfoldable pub nodes_of : List ℕ → Option Group
-nodes_of line = do
+unfoldable pub parse_node_words : List ℕ → Option Group
+parse_node_words line = do
   word ← word_at (words_of line)
   count ← if is (codes "nodes") word.0 then number_at 1 16 word.1 else None
   nodes ← whole count
@@ -68,7 +68,7 @@ then_nodes number (Some (Some nodes)) lines others = Ok (nodes, record { before 
 -- line's.
 unfoldable pub nodes_in : ℕ → List (List ℕ) → Result (Group × LinesLeft) ℕ
 nodes_in before [] = Err (before + 1)
-nodes_in before (line ∷ lines) = then_nodes (before + 1) (unless_skipped (nodes_of) line) lines (nodes_in (before + 1) lines)
+nodes_in before (line ∷ lines) = then_nodes (before + 1) (unless_skipped (parse_node_words) line) lines (nodes_in (before + 1) lines)
 
 -- A schedule of these nodes, if the lines can be parsed.
 abbrev pub with_nodes : Group → Result (List (ℕ × LineRequest)) ℕ → Result Schedule ℕ

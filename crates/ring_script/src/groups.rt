@@ -4,7 +4,7 @@
 
 ghost use Rattle.std.specs.Prelude.{◌≡◌, ◌-◌, slice_index};
 ghost use Rattle.ring_base.specs.Processors.{has, nobody};
-ghost use Rattle.ring_script.specs.Cuts.{isolation, cut_at, placed_from, group_of, member_set};
+ghost use Rattle.ring_script.specs.Cuts.{isolation, cut_at, placed_from, parse_group, member_set};
 ghost use Rattle.ring_script.specs.Reading.{IsParseResult};
 
 use crate::words::Words;
@@ -18,7 +18,7 @@ use std::marker::Model;
 /// Formats: Scripts
 #[derive(Clone, Copy, Debug, PartialEq, Eq)]
 pub struct Groups {
-    group_of: [ProcSet; PROCESSORS],
+    parse_group: [ProcSet; PROCESSORS],
 }
 
 impl Model for Groups {
@@ -26,25 +26,25 @@ impl Model for Groups {
 
     ghost Value = { List ℕ };
 
-    ghost view = { λ groups. groups.group_of };
+    ghost view = { λ groups. groups.parse_group };
 
-    ghost invariant = { λ groups. length groups.group_of ≡ 16 };
+    ghost invariant = { λ groups. length groups.parse_group ≡ 16 };
 
-    ghost inverse = { λ words. record { group_of = words } };
+    ghost inverse = { λ words. record { parse_group = words } };
 }
 
 impl Groups {
     /// Returns the partition into two groups: only `node`, and all other processors from 1 to 16.
     ///
     /// Formats: The command line
-    pub fn isolation(node: Proc) -> Groups
+    pub fn isolating_one(node: Proc) -> Groups
         ensures { result ≡ isolation node }
     {
-        let own = ProcSet::only(node);
-        let others = ProcSet::from_bits(u16::MAX).less(own);
-        let mut group_of = [others; PROCESSORS];
-        group_of[usize::from(node.number()) - 1] = own;
-        Groups { group_of }
+        let own = ProcSet::singleton(node);
+        let others = ProcSet::from_bits(u16::MAX).without_members(own);
+        let mut parse_group = [others; PROCESSORS];
+        parse_group[usize::from(node.number()) - 1] = own;
+        Groups { parse_group }
     }
 
     /// Returns whether the two nodes are in one group, so that each hears the other under this cut.
@@ -53,7 +53,7 @@ impl Groups {
     pub fn are_connected(&self, a: Proc, b: Proc) -> bool
         ensures { result ≡ has (slice_index self.now (a - 1)) b }
     {
-        self.group_of[a.number() as usize - 1].contains(b)
+        self.parse_group[a.number() as usize - 1].contains(b)
     }
 
     /// Takes the remaining words and parses them as the groups of a cut.
@@ -69,18 +69,18 @@ impl Groups {
         ensures { IsParseResult (λ groups. (groups, words.new)) result (cut_at nodes words.old) }
     {
         let mut groups = Groups {
-            group_of: [ProcSet::new(); PROCESSORS],
+            parse_group: [ProcSet::new(); PROCESSORS],
         };
         let mut count = 0u8;
         let mut placed = ProcSet::new();
         while let Some(word) = words.next_word() {
-            let group = group_of(word, nodes)?;
+            let group = parse_group(word, nodes)?;
             if !placed.intersection(group).is_empty() {
                 return Err(Fault::BadScript);
             }
             count = count.saturating_add(1);
             placed = placed.union(group);
-            groups.place(group);
+            groups.set_group_of_members(group);
         }
         if count < 2 || placed != nodes.everybody() {
             return Err(Fault::BadScript);
@@ -89,10 +89,10 @@ impl Groups {
     }
 
     /// Sets `group` as the group of each of its members.
-    fn place(&mut self, group: ProcSet)
+    fn set_group_of_members(&mut self, group: ProcSet)
         ensures { self.new ≡ placed_from 1 group self.old }
     {
-        for (i, kept) in self.group_of.iter_mut().enumerate() {
+        for (i, kept) in self.parse_group.iter_mut().enumerate() {
             if group.contains(Proc::new(i as u8 + 1)) {
                 *kept = group;
             }
@@ -103,9 +103,9 @@ impl Groups {
 /// Parses a group: node numbers separated by single commas.
 ///
 /// Errors: `BadScript` if a word isn't the number of a node, or a number occurs twice.
-#[tactic(auto, unfolding(crate::specs::Cuts::group_of))]
-fn group_of(word: &[u8], nodes: Fixed) -> Result<ProcSet, Fault>
-    ensures { IsParseResult (λ set. set) result (group_of nodes word.now) }
+#[tactic(auto, unfolding(crate::specs::Cuts::parse_group))]
+fn parse_group(word: &[u8], nodes: Fixed) -> Result<ProcSet, Fault>
+    ensures { IsParseResult (λ set. set) result (parse_group nodes word.now) }
 {
     member_set(nodes, &mut Words::new(word, b','))
 }

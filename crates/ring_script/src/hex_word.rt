@@ -5,7 +5,7 @@
 ghost use Rattle.std.specs.Char.{is_ascii_uppercase};
 ghost use Rattle.std.specs.List.{list_any};
 ghost use Rattle.std.specs.Prelude.{◌≡◌, ◌≤◌};
-ghost use Rattle.ring_script.specs.HexWords.{hex_bytes_of};
+ghost use Rattle.ring_script.specs.HexWords.{decode_hex_word};
 ghost use Rattle.ring_script.specs.Reading.{IsParseResultOrMemory};
 ghost use Rattle.ring_base.specs.Numbers.{max_frame_bytes};
 
@@ -20,14 +20,14 @@ use std::alloc::Allocator;
 /// allocation fails.
 ///
 /// Formats: Scripts
-#[tactic(auto, unfolding(crate::specs::HexWords::hex_bytes_of))]
-pub(crate) fn hex_bytes_of<A: Allocator + Copy>(
+#[tactic(auto, unfolding(crate::specs::HexWords::decode_hex_word))]
+pub(crate) fn decode_hex_word<A: Allocator + Copy>(
     alloc: A,
     word: &[u8],
     most: usize,
 ) -> Result<Vec<u8, A>, Fault>
     requires { most ≤ max_frame_bytes }
-    ensures { IsParseResultOrMemory (λ bytes. bytes.items) result (hex_bytes_of most word.now) }
+    ensures { IsParseResultOrMemory (λ bytes. bytes.items) result (decode_hex_word most word.now) }
 {
     if word.is_empty() || word.len() > 2 * most || has_upper_case(word) {
         return Err(Fault::BadScript);

@@ -8,10 +8,10 @@ ghost use Rattle.ring_script.specs.Lines.{stop_at, cut_line_at, pump_at, frame_a
 ghost use Rattle.ring_script.specs.Reading.{IsParseResultOrMemory, IsParseResult};
 
 use crate::groups::Groups;
-use crate::hex_word::hex_bytes_of;
+use crate::hex_word::decode_hex_word;
 use crate::operation::encode_operation;
 use crate::vocabulary::Vocabulary;
-use crate::words::{Words, is};
+use crate::words::{Words, equals_word};
 use ring_base::{Fault, Fixed, Kind, MAX_FRAME_BYTES, Proc};
 use ring_payload::Call;
 use std::alloc::{Allocator, Global};
@@ -57,8 +57,8 @@ impl<A: Allocator + Copy> ScriptLine<A> {
     /// Parses an effective line that is neither `nodes` nor `votes`, for these nodes and an object with this
     /// vocabulary.
     ///
-    /// `room` is a scratch buffer, in which the bytes of an operation are built. Its contents are unspecified
-    /// afterwards.
+    /// `operation_buffer` is a scratch buffer, in which the bytes of an operation are built. Its contents are
+    /// unspecified afterwards.
     ///
     /// Errors: `BadScript` if the line has none of the forms, or a number is outside its range; `Memory` if an
     /// allocation fails.
@@ -69,7 +69,7 @@ impl<A: Allocator + Copy> ScriptLine<A> {
         alloc: A,
         nodes: Fixed,
         line: &[u8],
-        room: &mut Vec<u8, A>,
+        operation_buffer: &mut Vec<u8, A>,
     ) -> Result<ScriptLine<A>, Fault>
         ensures { IsParseResultOrMemory request_of result (request_in V.forms nodes line.now) }
     {
@@ -77,7 +77,7 @@ impl<A: Allocator + Copy> ScriptLine<A> {
         let Some(word) = words.next_word() else {
             return Err(Fault::BadScript);
         };
-        match form_of::<V, A>(alloc, nodes, word, &mut words, room) {
+        match parse_by_first_word::<V, A>(alloc, nodes, word, &mut words, operation_buffer) {
             Ok(asked) if words.is_over() => Ok(asked),
             Ok(_) => Err(Fault::BadScript),
             Err(fault) => Err(fault),
@@ -87,32 +87,32 @@ impl<A: Allocator + Copy> ScriptLine<A> {
 
 /// Parses the words after the first one, `word`, by the form that begins with `word`.
 #[tactic(auto, unfolding(crate::specs::Lines::form_at))]
-fn form_of<V: Vocabulary, A: Allocator + Copy>(
+fn parse_by_first_word<V: Vocabulary, A: Allocator + Copy>(
     alloc: A,
     nodes: Fixed,
     word: &[u8],
     words: &mut Words<'_>,
-    room: &mut Vec<u8, A>,
+    operation_buffer: &mut Vec<u8, A>,
 ) -> Result<ScriptLine<A>, Fault>
     ensures { IsParseResultOrMemory (λ line. (request_of line, words.new)) result (form_at V.forms nodes word.now words.old) }
 {
-    if is(word, b"call") {
-        parse_call::<V, A>(alloc, nodes, words, room)
-    } else if is(word, b"deliver") {
+    if equals_word(word, b"call") {
+        parse_call::<V, A>(alloc, nodes, words, operation_buffer)
+    } else if equals_word(word, b"deliver") {
         parse_deliver(nodes, words)
-    } else if is(word, b"timeout") {
+    } else if equals_word(word, b"timeout") {
         parse_timeout(nodes, words)
-    } else if is(word, b"noise") {
+    } else if equals_word(word, b"noise") {
         parse_noise(alloc, nodes, words)
-    } else if is(word, b"stop") {
+    } else if equals_word(word, b"stop") {
         parse_stop(nodes, words)
-    } else if is(word, b"cut") {
+    } else if equals_word(word, b"cut") {
         parse_cut(nodes, words)
-    } else if is(word, b"heal") {
+    } else if equals_word(word, b"heal") {
         Ok(ScriptLine::Heal)
-    } else if is(word, b"pump") {
+    } else if equals_word(word, b"pump") {
         parse_pump(words)
-    } else if is(word, b"show") {
+    } else if equals_word(word, b"show") {
         Ok(ScriptLine::Show)
     } else {
         Err(Fault::BadScript)
@@ -124,15 +124,15 @@ fn parse_call<V: Vocabulary, A: Allocator + Copy>(
     alloc: A,
     nodes: Fixed,
     words: &mut Words<'_>,
-    room: &mut Vec<u8, A>,
+    operation_buffer: &mut Vec<u8, A>,
 ) -> Result<ScriptLine<A>, Fault>
     ensures { IsParseResultOrMemory (λ line. (request_of line, words.new)) result (call_at V.forms nodes words.old) }
 {
     let node = words.node(nodes)?;
     let client = words.number(0, u64::from(u32::MAX))? as u32;
     let number = words.number(1, u64::MAX)?;
-    encode_operation::<V, A>(alloc, words, room)?;
-    match Call::new(alloc, client, number, room.as_slice()) {
+    encode_operation::<V, A>(alloc, words, operation_buffer)?;
+    match Call::new(alloc, client, number, operation_buffer.as_slice()) {
         Ok(call) => Ok(ScriptLine::Call { node, call }),
         Err(fault) => Err(fault),
     }
@@ -146,7 +146,7 @@ fn parse_deliver<A: Allocator + Copy>(
     ensures { IsParseResultOrMemory (λ line. (request_of line, words.new)) result (deliver_at nodes words.old) }
 {
     let node = words.node(nodes)?;
-    match frame_at(words) {
+    match take_frame_number(words) {
         Ok(frame) => Ok(ScriptLine::Deliver { node, frame }),
         Err(fault) => Err(fault),
     }
@@ -181,7 +181,7 @@ fn parse_noise<A: Allocator + Copy>(
     let Some(word) = words.next_word() else {
         return Err(Fault::BadScript);
     };
-    match hex_bytes_of(alloc, word, MAX_FRAME_BYTES) {
+    match decode_hex_word(alloc, word, MAX_FRAME_BYTES) {
         Ok(bytes) => Ok(ScriptLine::Noise { node, bytes }),
         Err(fault) => Err(fault),
     }
@@ -231,7 +231,7 @@ fn parse_pump<A: Allocator + Copy>(words: &mut Words<'_>) -> Result<ScriptLine<A
 ///
 /// Errors: `BadScript` if it is no such number.
 #[tactic(auto, unfolding(crate::specs::Lines::frame_of))]
-fn frame_at(words: &mut Words<'_>) -> Result<Option<u64>, Fault>
+fn take_frame_number(words: &mut Words<'_>) -> Result<Option<u64>, Fault>
     ensures { IsParseResult (λ frame. (frame, words.new)) result (frame_at words.old) }
 {
     match words.decimal() {
@@ -261,13 +261,13 @@ pub fn timeout_name(kind: Kind) -> &'static str
 fn timeout_kind_of(word: &[u8]) -> Result<Kind, Fault>
     ensures { IsParseResult (λ kind. kind) result (timeout_kind_of word.now) }
 {
-    if is(word, b"retransmit") {
+    if equals_word(word, b"retransmit") {
         Ok(Kind::Retransmit)
-    } else if is(word, b"join") {
+    } else if equals_word(word, b"join") {
         Ok(Kind::Join)
-    } else if is(word, b"consensus") {
+    } else if equals_word(word, b"consensus") {
         Ok(Kind::Consensus)
-    } else if is(word, b"loss") {
+    } else if equals_word(word, b"loss") {
         Ok(Kind::Loss)
     } else {
         Err(Fault::BadScript)

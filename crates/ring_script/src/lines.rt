@@ -48,7 +48,7 @@ impl<'a> Lines<'a> {
     /// Returns a copy with the same lines left.
     ///
     /// Taking lines from one of them doesn't change the other.
-    pub fn again(&self) -> Lines<'a>
+    pub fn copied_lines(&self) -> Lines<'a>
         ensures { result ≡ self.now }
     {
         Lines {

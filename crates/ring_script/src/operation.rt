@@ -9,9 +9,9 @@ ghost use Rattle.ring_base.specs.declared.fault.Fault.TheVariants.{Memory};
 ghost use Rattle.ring_script.specs.Operations.{is_name, named_at, raw_at, operation_at, argument_after, arguments_after};
 ghost use Rattle.ring_script.specs.Reading.{IsParseResultOrMemory};
 
-use crate::hex_word::hex_bytes_of;
-use crate::vocabulary::{Argument, Vocabulary, form_of};
-use crate::words::{Words, is};
+use crate::hex_word::decode_hex_word;
+use crate::vocabulary::{Argument, Vocabulary, vocabulary_form};
+use crate::words::{Words, equals_word};
 use ring_base::Fault;
 use ring_payload::MAX_OPERATION;
 use std::alloc::Allocator;
@@ -42,7 +42,7 @@ pub(crate) fn encode_operation<V: Vocabulary, A: Allocator + Copy>(
     let Some(word) = words.next_word() else {
         return Err(Fault::BadScript);
     };
-    if is(word, b"raw") {
+    if equals_word(word, b"raw") {
         encode_raw(alloc, words, bytes)
     } else {
         encode_named::<V, A>(word, words, bytes)
@@ -63,7 +63,7 @@ fn encode_raw<A: Allocator + Copy>(
     let Some(word) = words.next_word() else {
         return Err(Fault::BadScript);
     };
-    match hex_bytes_of(alloc, word, MAX_OPERATION) {
+    match decode_hex_word(alloc, word, MAX_OPERATION) {
         Ok(encoded) => {
             *bytes = encoded;
             Ok(())
@@ -84,17 +84,20 @@ fn encode_named<V: Vocabulary, A: Allocator + Copy>(
 ) -> Result<(), Fault>
     ensures { IsParseResultOrMemory (λ _. (bytes.new.items, words.new)) result (named_at V.forms name.now words.old) }
 {
-    let Some(form) = form_of::<V>(name) else {
+    let Some(form) = vocabulary_form::<V>(name) else {
         return Err(Fault::BadScript);
     };
-    begin(bytes, form.first)?;
+    replace_with_prefix(bytes, form.first)?;
     encode_arguments(form.arguments, words, bytes)
 }
 
 /// Replaces the contents of `bytes` by the few bytes of `first`, one at a time, which costs less than a copy.
 ///
 /// Errors: `Memory` if an allocation fails.
-fn begin<A: Allocator + Copy>(bytes: &mut Vec<u8, A>, first: &[u8]) -> Result<(), Fault>
+fn replace_with_prefix<A: Allocator + Copy>(
+    bytes: &mut Vec<u8, A>,
+    first: &[u8],
+) -> Result<(), Fault>
     ensures bytes { OnOk result (bytes.new.items ≡ first.now) }
     ensures refused { IfErr result (λ fault. fault ≡ Memory) }
 {

@@ -11,7 +11,7 @@ ghost use Rattle.ring_script.specs.Fits.{AreFit};
 ghost use Rattle.ring_script.specs.Lines.{request_of, request_in};
 ghost use Rattle.ring_script.specs.Reading.{IsParseResultOrMemory, IsParseResult};
 ghost use Rattle.ring_script.specs.Numbers.{number_at};
-ghost use Rattle.ring_script.specs.Scripts.{nodes_of, unless_skipped, at_line};
+ghost use Rattle.ring_script.specs.Scripts.{parse_node_words, unless_skipped, at_line};
 ghost use Rattle.ring_script.specs.Scripts.{nodes_in, requests_in, script_by, script_of, numbered_by, schedule_by, AreAmong, Answers};
 ghost use Rattle.ring_script.specs.Scripts.{max_script_bytes, IsAllOf, IsScriptOfInputBy, IsScriptOfInput, IsInputFault};
 ghost use Rattle.ring_script.specs.Votes.{nodes_with_one_vote};
@@ -22,7 +22,7 @@ use crate::lines::Lines;
 use crate::shelf_vocabulary::ShelfVocabulary;
 use crate::vocabulary::Vocabulary;
 use crate::votes::read_votes;
-use crate::words::{Words, is};
+use crate::words::{Words, equals_word};
 use ring_base::{Fault, Fixed, MAX_PROCESSORS};
 use std::alloc::{Allocator, Global};
 use std::io::{ErrorKind, Read};
@@ -178,7 +178,7 @@ fn read_nodes(lines: &mut Lines<'_>) -> Result<Fixed, ScriptFault>
         (nodes_in lines.old.before lines.old.lines) }
 {
     while let Some((number, line)) = lines.next_line() {
-        match first_of(line) {
+        match parse_nodes_line(line) {
             Ok(None) => {}
             Ok(Some(nodes)) => return Ok(nodes),
             Err(fault) => return Err(at_line(fault, number)),
@@ -199,21 +199,27 @@ fn read_lines<V: Vocabulary, A: Allocator + Copy>(
     ensures { Answers (λ asked. map numbered_by asked.items) result
         (requests_in V.forms nodes lines.old.before lines.old.lines) }
 {
-    let mut asked = Vec::new(alloc);
-    let mut room = Vec::new(alloc);
+    let mut numbered_lines = Vec::new(alloc);
+    let mut operation_buffer = Vec::new(alloc);
     let is_plain = lines.are_ascii();
     while let Some((number, line)) = lines.next_line() {
-        match line_of::<V, A>(alloc, nodes, line, is_plain, &mut room) {
+        match parse_line_unless_skipped::<V, A>(
+            alloc,
+            nodes,
+            line,
+            is_plain,
+            &mut operation_buffer,
+        ) {
             Ok(None) => {}
             Ok(Some(line)) => {
-                if asked.push(NumberedLine { number, line }).is_err() {
+                if numbered_lines.push(NumberedLine { number, line }).is_err() {
                     return Err(ScriptFault::Memory);
                 }
             }
             Err(fault) => return Err(at_line(fault, number)),
         }
     }
-    Ok(asked)
+    Ok(numbered_lines)
 }
 
 /// Converts a fault in line `number`, counted from 1, to a script's fault.
@@ -233,8 +239,8 @@ pub(crate) fn at_line(fault: Fault, number: u64) -> ScriptFault
 /// Returns `None` if it is skipped.
 ///
 /// Errors: `BadScript` if it is not of the form `nodes N`.
-fn first_of(line: &[u8]) -> Result<Option<Fixed>, Fault>
-    ensures { IsParseResult (λ told. told) result (unless_skipped nodes_of line.now) }
+fn parse_nodes_line(line: &[u8]) -> Result<Option<Fixed>, Fault>
+    ensures { IsParseResult (λ told. told) result (unless_skipped parse_node_words line.now) }
 {
     if !are_ascii(line) {
         return Err(Fault::BadScript);
@@ -242,7 +248,7 @@ fn first_of(line: &[u8]) -> Result<Option<Fixed>, Fault>
     if is_skipped(line) {
         return Ok(None);
     }
-    match nodes_of(line) {
+    match parse_node_words(line) {
         Ok(nodes) => Ok(Some(nodes)),
         Err(fault) => Err(fault),
     }
@@ -254,12 +260,12 @@ fn first_of(line: &[u8]) -> Result<Option<Fixed>, Fault>
 ///
 /// Errors: `BadScript` if it has none of the forms; `Memory` if an allocation fails. `is_plain` must be true only if
 /// the line is ASCII; it is then not checked again.
-fn line_of<V: Vocabulary, A: Allocator + Copy>(
+fn parse_line_unless_skipped<V: Vocabulary, A: Allocator + Copy>(
     alloc: A,
     nodes: Fixed,
     line: &[u8],
     is_plain: bool,
-    room: &mut Vec<u8, A>,
+    operation_buffer: &mut Vec<u8, A>,
 ) -> Result<Option<ScriptLine<A>>, Fault>
     requires { is_plain ≡ true → are_ascii line.now ≡ true }
     ensures { IsParseResultOrMemory (option_map request_of) result (unless_skipped (request_in V.forms nodes) line.now) }
@@ -270,7 +276,7 @@ fn line_of<V: Vocabulary, A: Allocator + Copy>(
     if is_skipped(line) {
         return Ok(None);
     }
-    match ScriptLine::parse::<V>(alloc, nodes, line, room) {
+    match ScriptLine::parse::<V>(alloc, nodes, line, operation_buffer) {
         Ok(line) => Ok(Some(line)),
         Err(fault) => Err(fault),
     }
@@ -298,13 +304,13 @@ pub(crate) fn are_ascii(line: &[u8]) -> bool
 /// Parses a line `nodes N`, and returns that many nodes, with one vote each.
 ///
 /// Errors: `BadScript` if it isn't such a line.
-#[tactic(auto, unfolding(crate::specs::Scripts::nodes_of))]
-fn nodes_of(line: &[u8]) -> Result<Fixed, Fault>
-    ensures { IsParseResult (λ nodes. nodes) result (nodes_of line.now) }
+#[tactic(auto, unfolding(crate::specs::Scripts::parse_node_words))]
+fn parse_node_words(line: &[u8]) -> Result<Fixed, Fault>
+    ensures { IsParseResult (λ nodes. nodes) result (parse_node_words line.now) }
 {
     let mut words = Words::new(line, b' ');
     match words.next_word() {
-        Some(word) if is(word, b"nodes") => parse_node_count(&mut words),
+        Some(word) if equals_word(word, b"nodes") => parse_node_count(&mut words),
         _ => Err(Fault::BadScript),
     }
 }

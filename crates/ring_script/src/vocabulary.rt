@@ -7,7 +7,7 @@ ghost use Rattle.std.specs.Prelude.{◌≡◌, option_map};
 ghost use Rattle.ring_script.specs.Numbers.{is};
 ghost use Rattle.ring_script.specs.Operations.{form_view, form_of};
 
-use crate::words::is;
+use crate::words::equals_word;
 
 /// The kind of an operation's argument, which fixes its encoding.
 ///
@@ -88,18 +88,18 @@ impl Vocabulary for EmptyVocabulary {
 /// Returns the first form of the vocabulary `V` with the word `word`.
 ///
 /// Returns `None` if there is none.
-pub(crate) fn form_of<V: Vocabulary>(word: &[u8]) -> Option<OperationForm>
+pub(crate) fn vocabulary_form<V: Vocabulary>(word: &[u8]) -> Option<OperationForm>
     ensures { option_map form_view result ≡ form_of V.forms word.now }
 {
-    found(V::forms(), word)
+    first_form_with_word(V::forms(), word)
 }
 
 /// Returns the first of `forms` with the word `word`, or `None` if there is none.
-fn found(forms: &'static [OperationForm], word: &[u8]) -> Option<OperationForm>
+fn first_form_with_word(forms: &'static [OperationForm], word: &[u8]) -> Option<OperationForm>
     ensures { result ≡ find (λ form. is form.word.now word.now) forms.now }
 {
     for form in forms {
-        if is(word, form.word.as_bytes()) {
+        if equals_word(word, form.word.as_bytes()) {
             return Some(*form);
         }
     }

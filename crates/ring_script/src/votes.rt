@@ -9,7 +9,7 @@ ghost use Rattle.ring_script.specs.Votes.{votes_at, votes_of, is_votes, votes_in
 
 use crate::lines::Lines;
 use crate::scripts::{ScriptFault, are_ascii, at_line, is_skipped};
-use crate::words::{Words, is};
+use crate::words::{Words, equals_word};
 use ring_base::{Fault, Fixed, PROCESSORS};
 
 /// Takes the line of votes, if it is the next effective line, and returns the nodes with these votes.
@@ -25,10 +25,10 @@ pub(crate) fn read_votes(lines: &mut Lines<'_>, nodes: Fixed) -> Result<Fixed, S
     ensures read { Answers (λ voted. (voted, lines.new)) result
         (votes_in nodes lines.old.before lines.old.lines) }
 {
-    let mut from = lines.again();
+    let mut from = lines.copied_lines();
     while let Some((number, line)) = lines.next_line() {
         if is_votes(line) {
-            return match votes_of(line, nodes) {
+            return match parse_votes_line(line, nodes) {
                 Ok(voted) => Ok(voted),
                 Err(fault) => Err(at_line(fault, number)),
             };
@@ -37,7 +37,7 @@ pub(crate) fn read_votes(lines: &mut Lines<'_>, nodes: Fixed) -> Result<Fixed, S
             *lines = from;
             return Ok(nodes);
         }
-        from = lines.again();
+        from = lines.copied_lines();
     }
     Ok(nodes)
 }
@@ -46,7 +46,7 @@ fn is_votes(line: &[u8]) -> bool
     ensures { result ≡ is_votes line.now }
 {
     match Words::new(line, b' ').next_word() {
-        Some(word) => is(word, b"votes"),
+        Some(word) => equals_word(word, b"votes"),
         None => false,
     }
 }
@@ -55,7 +55,7 @@ fn is_votes(line: &[u8]) -> bool
 ///
 /// Errors: `BadScript` unless there is one vote for each node, each 1 to 255.
 #[tactic(auto, unfolding(crate::specs::Votes::votes_of))]
-fn votes_of(line: &[u8], nodes: Fixed) -> Result<Fixed, Fault>
+fn parse_votes_line(line: &[u8], nodes: Fixed) -> Result<Fixed, Fault>
     ensures count { IfOk result (λ voted. voted.count ≡ nodes.count) }
     ensures read { IsParseResult (λ voted. voted) result (votes_of nodes line.now) }
 {
@@ -63,7 +63,7 @@ fn votes_of(line: &[u8], nodes: Fixed) -> Result<Fixed, Fault>
     if words.next_word().is_none() {
         return Err(Fault::BadScript);
     }
-    match votes_at(&mut words, nodes) {
+    match take_votes(&mut words, nodes) {
         Ok(voted) if words.is_over() => Ok(voted),
         _ => Err(Fault::BadScript),
     }
@@ -72,7 +72,7 @@ fn votes_of(line: &[u8], nodes: Fixed) -> Result<Fixed, Fault>
 /// Takes one word for each node, and returns `nodes` with these votes.
 ///
 /// Errors: `BadScript` unless each word is a number from 1 to 255.
-fn votes_at(words: &mut Words<'_>, nodes: Fixed) -> Result<Fixed, Fault>
+fn take_votes(words: &mut Words<'_>, nodes: Fixed) -> Result<Fixed, Fault>
     ensures count { IfOk result (λ voted. voted.count ≡ nodes.count) }
     ensures read { IsParseResult (λ voted. (voted.votes, words.new)) result (votes_at nodes.count words.old) }
 {

@@ -88,11 +88,11 @@ impl<'a> Words<'a> {
         let Some(text) = self.rest else {
             return Err(Fault::BadScript);
         };
-        let digits = Digits::leading(text);
-        if !are_plain(&text[..digits.count]) {
+        let digits = Digits::leading_digits(text);
+        if !have_no_leading_zero(&text[..digits.count]) {
             return Err(Fault::BadScript);
         }
-        match behind(&text[digits.count..], self.separator) {
+        match rest_after_separator(&text[digits.count..], self.separator) {
             Ok(rest) => {
                 self.rest = rest;
                 Ok(digits.value)
@@ -149,7 +149,7 @@ struct Digits {
 
 impl Digits {
     /// Returns the leading digits of this text.
-    fn leading(text: &[u8]) -> Digits
+    fn leading_digits(text: &[u8]) -> Digits
         ensures { BeginsWith text.now result.count result.value }
     {
         let mut count = 0;
@@ -157,7 +157,7 @@ impl Digits {
         while count < text.len() && text[count].is_ascii_digit() {
             match with_digit(value, text[count]) {
                 Some(more) => value = more,
-                None => return Digits::beyond(text, count),
+                None => return Digits::leading_beyond_u64(text, count),
             }
             count += 1;
         }
@@ -170,7 +170,7 @@ impl Digits {
     /// Returns the leading digits of a text in which those up to the index `place` denote 2^64 or more.
     ///
     /// The digits up to and including that index must denote such a number.
-    fn beyond(text: &[u8], place: usize) -> Digits
+    fn leading_beyond_u64(text: &[u8], place: usize) -> Digits
         requires within { place + 1 ≤ length text.now }
         requires digits { list_all is_ascii_digit (take (place + 1) text.now) ≡ true }
         requires great { 2 ^ 64 ≤ digits_value 10 (take (place + 1) text.now) }
@@ -193,7 +193,7 @@ fn with_digit(number: u64, digit: u8) -> Option<u64>
 }
 
 /// Returns whether there are digits, without a leading zero except in `0` itself.
-fn are_plain(digits: &[u8]) -> bool
+fn have_no_leading_zero(digits: &[u8]) -> bool
     requires { list_all is_ascii_digit digits.now ≡ true }
     ensures { result ≡ is_decimal digits.now }
 {
@@ -206,7 +206,7 @@ fn are_plain(digits: &[u8]) -> bool
 /// Returns the text after its first byte, the separator, or `None` if the text is empty.
 ///
 /// Errors: `BadScript` if its first byte isn't the separator.
-fn behind(text: &[u8], separator: u8) -> Result<Option<&[u8]>, Fault>
+fn rest_after_separator(text: &[u8], separator: u8) -> Result<Option<&[u8]>, Fault>
     ensures left { IfOk result (λ left. pieces separator text.now ≡ [] ∷ pieces_left separator left) }
     ensures failed { IfErr result (λ fault. (fault ≡ BadScript) × (0 < length text.now) × ((get_or text.now 0 0 == separator) ≡ false)) }
 {
@@ -228,7 +228,7 @@ pub(crate) fn piece_end(text: &[u8], separator: u8) -> Option<usize>
 
 /// Returns whether the word equals `name`.
 #[tactic(auto, unfolding(crate::specs::Numbers::is))]
-pub(crate) fn is(word: &[u8], name: &[u8]) -> bool
+pub(crate) fn equals_word(word: &[u8], name: &[u8]) -> bool
     ensures { result ≡ is name.now word.now }
 {
     word == name

@@ -3,7 +3,7 @@ use Rattle.std.proofs.Common.{◌≡◌, ◌≤◌, ℕ, zero, suc, ◌+◌, ◌
 use Rattle.std.proofs.lemmas.List.{length-map}
 use Rattle.std.proofs.lemmas.Option.{same_Some}
 use Rattle.std.specs.Prelude.{◌≢◌, OnOk, slice_get, slice_index_or}
-use Rattle.ring_base.specs.Group.{Group, AreVotes, filled}
+use Rattle.ring_base.specs.Group.{Group, AreVotes, padded_votes}
 use Rattle.ring_script.specs.Lines.{LineRequest, request_of}
 use Rattle.ring_script.specs.Operations.{OperationForm}
 use Rattle.ring_script.specs.Scripts.{script_by, schedule_by, numbered_by, max_script_bytes}
@@ -44,7 +44,7 @@ other_at (x ∷ xs) (suc k) number others = other_at xs k number others
 -- A script that is as requested.
 pub read_made : {A T E : Type 0} (forms : List OperationForm) (script : Script A) (r : Result T E) (nodes : Group) (lines : ℕ) (text : List ℕ)
     → AreVotes nodes.votes → nodes.count ≡ length nodes.votes → length text ≤ max_script_bytes → script_by forms text ≡ Ok (schedule_by script)
-    → OnOk r ((script.nodes.count ≡ nodes.count) × (filled script.nodes.votes ≡ filled nodes.votes))
+    → OnOk r ((script.nodes.count ≡ nodes.count) × (padded_votes script.nodes.votes ≡ padded_votes nodes.votes))
     → OnOk r (length script.lines.items ≡ min lines 10000 + 1)
     → OnOk r ((k : ℕ) (d : NumberedLine A) → k < min lines 10000 → (slice_index_or script.lines.items k d).line ≢ line.Show)
     → OnOk r ((d : NumberedLine A) → (slice_index_or script.lines.items (min lines 10000) d).line ≡ line.Show)

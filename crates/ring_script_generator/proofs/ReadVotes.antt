@@ -4,12 +4,12 @@ use Rattle.std.specs.Prelude.{◌&&◌, IfSome, IfOk}
 use Rattle.std.proofs.lemmas.Bool.{cases_Bool}
 use Rattle.std.proofs.lemmas.List.{length-replicate, take-append-le, take_all}
 use Rattle.std.proofs.lemmas.Result.{IfOk-at_ok}
-use Rattle.ring_base.specs.Group.{Group, filled}
+use Rattle.ring_base.specs.Group.{Group, padded_votes}
 use Rattle.ring_base.proofs.TwoEqual.{ap-both}
 use Rattle.ring_script.specs.Lines.{LineRequest}
 use Rattle.ring_script.specs.Numbers.{word_at}
 use Rattle.ring_script.specs.Operations.{OperationForm}
-use Rattle.ring_script.specs.Scripts.{Schedule, nodes_of, unless_skipped, requests_in, with_nodes, with_votes, then_nodes, nodes_in, schedule_of, script_by}
+use Rattle.ring_script.specs.Scripts.{Schedule, parse_node_words, unless_skipped, requests_in, with_nodes, with_votes, then_nodes, nodes_in, schedule_of, script_by}
 use Rattle.ring_script.specs.Votes.{votes_at, votes_of, is_votes, then_votes, votes_in}
 use Rattle.ring_script.specs.Words.{LinesLeft, words_of, whole, are_ascii, is_skipped, lines_of}
 use Rattle.ring_base.proofs.Cases.{and_then_some}
@@ -25,8 +25,8 @@ whole_is read x e = grind arith
 
 -- ---- one line.
 
-alike_whole : (line : List ℕ) → IfSome (nodes_of line) Whole
-unfolding nodes_of
+alike_whole : (line : List ℕ) → IfSome (parse_node_words line) Whole
+unfolding parse_node_words
 alike_whole line = grind (arith, length-replicate {A = ℕ})
 
 voted_is : (nodes : Group) (line : List ℕ) (voted : Group) → votes_of nodes line ≡ Some voted → Whole voted
@@ -67,7 +67,7 @@ votes_whole nodes before (line ∷ lines) whole =
           ]
     ]
 
-told_whole : (line : List ℕ) → IfSome (unless_skipped nodes_of line) (λ told. IfSome told Whole)
+told_whole : (line : List ℕ) → IfSome (unless_skipped parse_node_words line) (λ told. IfSome told Whole)
 told_whole line = grind (arith, alike_whole line)
 
 then_whole : (number : ℕ) (told : Option (Option Group)) (lines : List (List ℕ)) (others : Result (Group × LinesLeft) ℕ)
@@ -80,7 +80,7 @@ nodes_whole : (before : ℕ) (lines : List (List ℕ)) → IfOk (nodes_in before
 unfolding nodes_in
 nodes_whole before [] = tt
 nodes_whole before (line ∷ lines) =
-    then_whole (before + 1) (unless_skipped nodes_of line) lines (nodes_in (before + 1) lines) (told_whole line) (nodes_whole (before + 1) lines)
+    then_whole (before + 1) (unless_skipped parse_node_words line) lines (nodes_in (before + 1) lines) (told_whole line) (nodes_whole (before + 1) lines)
 
 -- ---- a script.
 
@@ -111,12 +111,12 @@ script_whole forms text schedule read = IfOk-at_ok (λ (s : Schedule). Whole s.n
 -- ---- the same nodes.
 
 -- Of places that are filled, the votes are the first.
-front_is : (n : ℕ) (votes : List ℕ) → length votes ≡ n → take n (filled votes) ≡ votes
+front_is : (n : ℕ) (votes : List ℕ) → length votes ≡ n → take n (padded_votes votes) ≡ votes
 front_is n votes long = take-append-le n votes _ (omega (arith, long)) ∙ take_all n votes (omega (arith, long))
 
 -- As many nodes, with the same votes.
 pub same_nodes : (one other : Group) → length one.votes ≡ one.count → other.count ≡ length other.votes → one.count ≡ other.count
-    → filled one.votes ≡ filled other.votes → one ≡ record { count = length other.votes; votes = other.votes }
+    → padded_votes one.votes ≡ padded_votes other.votes → one ≡ record { count = length other.votes; votes = other.votes }
 same_nodes one other whole long count same =
     let group : ℕ → List ℕ → Group = λ n votes. record { count = n; votes = votes } in
     let votes : one.votes ≡ other.votes =

@@ -5,14 +5,14 @@
 ghost use Rattle.std.specs.Prelude.{◌≡◌, ◌≢◌, ◌≤◌, ◌<◌, ◌+◌, ◌⊎◌, ◌↔◌, ℕ, min, length, slice_index_or, List};
 ghost use Rattle.std.specs.Prelude.{IsTrue, IfOk, IfErr, OnOk, string_bytes};
 ghost use Rattle.std.specs.Io.KnownBytes.{Appends};
-ghost use Rattle.ring_base.specs.Group.{AreVotes, filled};
+ghost use Rattle.ring_base.specs.Group.{AreVotes, padded_votes};
 ghost use Rattle.ring_base.specs.declared.fault.Fault.TheVariants.{BadScript, Memory};
 ghost use Rattle.ring_script.specs.declared.line.ScriptLine.TheVariants.{Show};
 ghost use Rattle.ring_script_generator.specs.Generated.{IsGeneratedBy, IsGenerated, IsNotGenerated};
 
 use crate::script_builder::ScriptBuilder;
 use ring_base::{Fault, Fixed};
-use ring_failure::{Failure, report};
+use ring_failure::{Failure, report_failure};
 use ring_script::{
     MAX_SCRIPT_BYTES, NumberedLine, Script, ScriptFault, ScriptLine, ShelfVocabulary, Vocabulary,
 };
@@ -114,7 +114,7 @@ fn check_script<A: Allocator + Copy + Drop>(
     lines: u32,
     script: &Script<A>,
 ) -> Result<(), Fault>
-    ensures nodes { OnOk result ((script.now.nodes.count ≡ nodes.count) × (filled script.now.nodes.votes ≡ filled nodes.votes)) }
+    ensures nodes { OnOk result ((script.now.nodes.count ≡ nodes.count) × (padded_votes script.now.nodes.votes ≡ padded_votes nodes.votes)) }
     ensures lines { OnOk result (length script.now.lines.items ≡ min lines 10000 + 1) }
     ensures asks { OnOk result ((k : ℕ) (line : _) → k < min lines 10000 → (slice_index_or script.now.lines.items k line).line ≢ Show) }
     ensures shows { OnOk result ((line : _) → (slice_index_or script.now.lines.items (min lines 10000) line).line ≡ Show) }
@@ -130,7 +130,7 @@ fn check_script<A: Allocator + Copy + Drop>(
 
 /// Returns whether the two groups have as many nodes, with the same votes.
 fn are_same(one: Fixed, other: Fixed) -> bool
-    ensures { IsTrue result → (one.count ≡ other.count) × (filled one.votes ≡ filled other.votes) }
+    ensures { IsTrue result → (one.count ≡ other.count) × (padded_votes one.votes ≡ padded_votes other.votes) }
 {
     one == other
 }
@@ -235,8 +235,8 @@ pub fn generate_by<V: Vocabulary, A: Allocator + Copy + Drop, O: Write, E: Write
     match generate_script_by::<V, A>(alloc, votes, seed, lines) {
         Ok(text) => match out.write_all(text.as_bytes()) {
             Ok(()) => 0,
-            Err(_) => report(err, Failure::Output),
+            Err(_) => report_failure(err, Failure::Output),
         },
-        Err(fault) => report(err, Failure::Refused(fault)),
+        Err(fault) => report_failure(err, Failure::Refused(fault)),
     }
 }

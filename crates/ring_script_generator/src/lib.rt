@@ -6,12 +6,12 @@
 #![tactic(auto)]
 
 mod draws;
+mod generated_line;
 mod generation;
 mod operation;
 mod scenario;
 mod scenarios;
 mod script_builder;
 mod sides;
-mod step;
 
 pub use generation::{MAX_LINES, generate, generate_by, generate_script, generate_script_by};

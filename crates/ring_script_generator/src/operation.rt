@@ -16,7 +16,7 @@ use std::fmt::Write;
 #[derive(Clone, Copy)]
 pub(crate) struct Operation {
     /// The index of its form.
-    place: u32,
+    form_index: u32,
     /// The key, or the number of a name.
     key: u32,
     /// Its first, third, .. value.
@@ -37,7 +37,7 @@ impl Operation {
     /// Returns the operation by the first form of a vocabulary, with all arguments 0.
     pub fn first() -> Operation {
         Operation {
-            place: 0,
+            form_index: 0,
             key: 0,
             value: 0,
             other: 0,
@@ -52,9 +52,9 @@ impl Operation {
         let key = draws.draw_below(KEYS);
         let (value, other) = (draws.draw_below(VALUES), draws.draw_below(VALUES));
         let many = u32::try_from(forms).unwrap_or(u32::MAX).max(1);
-        let place = draws.draw_below(many);
+        let form_index = draws.draw_below(many);
         Operation {
-            place,
+            form_index,
             key,
             value,
             other,
@@ -73,7 +73,7 @@ impl Operation {
         forms: &[OperationForm],
         text: &mut String<A>,
     ) -> Result<(), Fault> {
-        let Some(form) = forms.get(self.place as usize) else {
+        let Some(form) = forms.get(self.form_index as usize) else {
             return Ok(text.push_str("raw 00")?);
         };
         text.push_str(form.word)?;

@@ -2,10 +2,10 @@
 //!
 //! Formats: The command line
 
+use crate::generated_line::GeneratedLine;
 use crate::scenario::Scenario;
 use crate::script_builder::ScriptBuilder;
 use crate::sides::CutSides;
-use crate::step::Step;
 use ring_base::{Fault, Kind, ProcSet};
 use ring_script::Vocabulary;
 use std::alloc::Allocator;
@@ -18,20 +18,20 @@ impl<V: Vocabulary, A: Allocator> ScriptBuilder<V, A> {
     ///
     /// Formats: The command line
     pub fn generate_all(&mut self) -> Result<(), Fault> {
-        self.open()?;
+        self.form_first_ring()?;
         self.reserve_end();
         for _ in 0..self.lines() {
-            if self.left() > 0 {
+            if self.unreserved_lines_left() > 0 {
                 self.continue_run()?;
             }
         }
         self.release_reserve();
-        self.end()?;
+        self.form_last_ring()?;
         self.show()
     }
 
     /// All nodes look for each other.
-    fn open(&mut self) -> Result<(), Fault> {
+    fn form_first_ring(&mut self) -> Result<(), Fault> {
         self.write_comment(Scenario::Open)?;
         self.time_out_all(self.nodes.everybody(), Kind::Join)?;
         self.pump_long()
@@ -40,7 +40,7 @@ impl<V: Vocabulary, A: Allocator> ScriptBuilder<V, A> {
     /// All nodes that have not stopped form one ring.
     ///
     /// It has two lines for each of them, and five more.
-    fn end(&mut self) -> Result<(), Fault> {
+    fn form_last_ring(&mut self) -> Result<(), Fault> {
         self.write_comment(Scenario::End)?;
         self.heal()?;
         self.time_out_all(self.live, Kind::Loss)?;
@@ -62,7 +62,7 @@ impl<V: Vocabulary, A: Allocator> ScriptBuilder<V, A> {
             68..=77 => self.interrupt_gather(),
             78..=81 => self.stop_one(),
             82..=89 => self.isolate_one(),
-            90..=94 => self.repeat(),
+            90..=94 => self.deliver_old_frames(),
             _ => self.resend(),
         }
     }
@@ -80,7 +80,7 @@ impl<V: Vocabulary, A: Allocator> ScriptBuilder<V, A> {
 
     /// A client retries its last call.
     fn retry_call(&mut self) -> Result<(), Fault> {
-        self.retry()?;
+        self.repeat_last_call()?;
         let turns = self.draws.draw_between(1, 40);
         self.pump_about(turns)
     }
@@ -174,9 +174,9 @@ impl<V: Vocabulary, A: Allocator> ScriptBuilder<V, A> {
 
     /// Pumps for fewer turns than a ring takes to form.
     fn pump_part(&mut self) -> Result<(), Fault> {
-        let most = self.pairs().saturating_mul(3).saturating_add(10);
+        let most = self.node_pair_count().saturating_mul(3).saturating_add(10);
         let turns = self.draws.draw_between(1, most);
-        self.add_step(Step::Pump { turns })
+        self.add_step(GeneratedLine::Pump { turns })
     }
 
     /// A node stops, if the remaining ones have most votes, and the others give it up.
@@ -184,14 +184,14 @@ impl<V: Vocabulary, A: Allocator> ScriptBuilder<V, A> {
         let Some(node) = self.draws.draw_member(self.live) else {
             return Ok(());
         };
-        let others = self.live.less(ProcSet::only(node));
+        let others = self.live.without_members(ProcSet::singleton(node));
         if !self.nodes.is_primary(others) {
             return self.call_some();
         }
         self.write_comment(Scenario::Stop { node })?;
         self.live = others;
         self.reserve_end();
-        self.add_step(Step::Stop { node })?;
+        self.add_step(GeneratedLine::Stop { node })?;
         self.form_all()
     }
 
@@ -209,14 +209,14 @@ impl<V: Vocabulary, A: Allocator> ScriptBuilder<V, A> {
         self.call()?;
         self.set_sides(sides)?;
         let turns = self.draws.draw_between(1, 6);
-        self.add_step(Step::Pump { turns })?;
+        self.add_step(GeneratedLine::Pump { turns })?;
         self.heal()?;
         self.time_out_all(self.live, Kind::Retransmit)?;
         self.pump_about(40)
     }
 
     /// Old frames arrive again, and bytes that no node sent.
-    fn repeat(&mut self) -> Result<(), Fault> {
+    fn deliver_old_frames(&mut self) -> Result<(), Fault> {
         self.write_comment(Scenario::Repeat)?;
         let many = self.draws.draw_between(1, 3);
         for _ in 0..many {
@@ -232,10 +232,10 @@ impl<V: Vocabulary, A: Allocator> ScriptBuilder<V, A> {
         };
         if self.draws.draw_bool(25) {
             let byte = self.draws.draw_below(256) as u8;
-            return self.add_step(Step::Noise { node, byte });
+            return self.add_step(GeneratedLine::Noise { node, byte });
         }
         let frame = self.draws.draw_between(1, 200);
-        self.add_step(Step::Deliver { node, frame })
+        self.add_step(GeneratedLine::Deliver { node, frame })
     }
 
     /// The nodes retransmit the tokens that they keep.

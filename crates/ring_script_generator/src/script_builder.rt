@@ -3,10 +3,10 @@
 ghost use Rattle.std.specs.Prelude.{◌<◌};
 
 use crate::draws::RandomDraws;
+use crate::generated_line::GeneratedLine;
 use crate::operation::Operation;
 use crate::scenario::Scenario;
 use crate::sides::CutSides;
-use crate::step::Step;
 use ring_base::{Fault, Fixed, Kind, Proc, ProcSet};
 use ring_script::Vocabulary;
 use std::alloc::Allocator;
@@ -42,11 +42,11 @@ pub(crate) struct ScriptBuilder<V: Vocabulary, A: Allocator> {
     /// The clients that call now.
     clients: [Client; 4],
     /// The number of clients so far.
-    names: u32,
+    client_count: u32,
     /// The number of lines still to come.
-    left: u32,
+    lines_left: u32,
     /// The number of these that are reserved for the end.
-    kept: u32,
+    lines_reserved: u32,
     text: String<A>,
 }
 
@@ -70,9 +70,9 @@ impl<V: Vocabulary, A: Allocator> ScriptBuilder<V, A> {
             live,
             sides: CutSides::joined(live),
             clients: [nobody; 4],
-            names: 0,
-            left: lines,
-            kept: 0,
+            client_count: 0,
+            lines_left: lines,
+            lines_reserved: 0,
             text: head,
         }
     }
@@ -81,22 +81,22 @@ impl<V: Vocabulary, A: Allocator> ScriptBuilder<V, A> {
     ///
     /// It replaces an earlier reservation.
     pub fn reserve_end(&mut self) {
-        self.kept = self.live.len().saturating_mul(2).saturating_add(5);
+        self.lines_reserved = self.live.len().saturating_mul(2).saturating_add(5);
     }
 
     /// Releases the lines that are reserved for the end, so that the end may use them.
     pub fn release_reserve(&mut self) {
-        self.kept = 0;
+        self.lines_reserved = 0;
     }
 
     /// Returns the number of lines still to come before `show`, the reserved ones included.
     pub fn lines(&self) -> u32 {
-        self.left
+        self.lines_left
     }
 
     /// Returns the number of lines still to come that aren't reserved for the end, 0 if all are.
-    pub fn left(&self) -> u32 {
-        self.left.saturating_sub(self.kept)
+    pub fn unreserved_lines_left(&self) -> u32 {
+        self.lines_left.saturating_sub(self.lines_reserved)
     }
 
     /// Returns the text built so far.
@@ -112,7 +112,7 @@ impl<V: Vocabulary, A: Allocator> ScriptBuilder<V, A> {
     ///
     /// Formats: Scripts
     pub fn write_comment(&mut self, scenario: Scenario) -> Result<(), Fault> {
-        if self.left() > 0 {
+        if self.unreserved_lines_left() > 0 {
             writeln!(&mut self.text, "{scenario}")?;
         }
         Ok(())
@@ -125,7 +125,7 @@ impl<V: Vocabulary, A: Allocator> ScriptBuilder<V, A> {
     /// Errors: `Memory` if an allocation fails; a part of the line may then have been appended.
     ///
     /// Formats: Scripts
-    pub fn add_step(&mut self, step: Step) -> Result<(), Fault> {
+    pub fn add_step(&mut self, step: GeneratedLine) -> Result<(), Fault> {
         if self.take_line() {
             writeln!(&mut self.text, "{step}")?;
         }
@@ -136,10 +136,10 @@ impl<V: Vocabulary, A: Allocator> ScriptBuilder<V, A> {
     ///
     /// Returns whether there was one.
     fn take_line(&mut self) -> bool {
-        if self.left() == 0 {
+        if self.unreserved_lines_left() == 0 {
             return false;
         }
-        self.left = self.left.saturating_sub(1);
+        self.lines_left = self.lines_left.saturating_sub(1);
         true
     }
 
@@ -158,7 +158,7 @@ impl<V: Vocabulary, A: Allocator> ScriptBuilder<V, A> {
     ///
     /// Formats: Scripts
     pub fn time_out(&mut self, node: Proc, kind: Kind) -> Result<(), Fault> {
-        self.add_step(Step::Timeout { node, kind })
+        self.add_step(GeneratedLine::Timeout { node, kind })
     }
 
     /// Appends a timeout of this kind at each of these nodes, in the order of their numbers, as
@@ -182,7 +182,7 @@ impl<V: Vocabulary, A: Allocator> ScriptBuilder<V, A> {
     pub fn pump_about(&mut self, turns: u32) -> Result<(), Fault> {
         let least = turns / 2 + 1;
         let turns = self.draws.draw_between(least, least.saturating_add(turns));
-        self.add_step(Step::Pump { turns })
+        self.add_step(GeneratedLine::Pump { turns })
     }
 
     /// Appends a pump that is usually long enough for a ring to form: of about 8 turns for each pair of nodes and 40
@@ -194,11 +194,11 @@ impl<V: Vocabulary, A: Allocator> ScriptBuilder<V, A> {
     ///
     /// Formats: Scripts
     pub fn pump_long(&mut self) -> Result<(), Fault> {
-        self.pump_about(self.pairs().saturating_mul(8).saturating_add(40))
+        self.pump_about(self.node_pair_count().saturating_mul(8).saturating_add(40))
     }
 
     /// Returns the number of ordered pairs of nodes, each node with itself included: N * N, stopped nodes counted.
-    pub fn pairs(&self) -> u32 {
+    pub fn node_pair_count(&self) -> u32 {
         let count = u32::from(self.nodes.count());
         count.saturating_mul(count)
     }
@@ -213,7 +213,7 @@ impl<V: Vocabulary, A: Allocator> ScriptBuilder<V, A> {
     pub fn set_sides(&mut self, sides: CutSides) -> Result<(), Fault> {
         let cut = sides.copied();
         self.sides = sides;
-        self.add_step(Step::Cut(cut))
+        self.add_step(GeneratedLine::Cut(cut))
     }
 
     /// Removes the cut, if there is one, and appends the line `heal` as `add_step` does.
@@ -225,7 +225,7 @@ impl<V: Vocabulary, A: Allocator> ScriptBuilder<V, A> {
     /// Formats: Scripts
     pub fn heal(&mut self) -> Result<(), Fault> {
         self.sides = CutSides::joined(self.nodes.everybody());
-        self.add_step(Step::Heal)
+        self.add_step(GeneratedLine::Heal)
     }
 
     /// Appends a pump of 16 turns for each ordered pair of nodes, and 80 more.
@@ -236,8 +236,8 @@ impl<V: Vocabulary, A: Allocator> ScriptBuilder<V, A> {
     ///
     /// Formats: Scripts
     pub fn pump_all(&mut self) -> Result<(), Fault> {
-        let turns = self.pairs().saturating_mul(16).saturating_add(80);
-        self.add_step(Step::Pump { turns })
+        let turns = self.node_pair_count().saturating_mul(16).saturating_add(80);
+        self.add_step(GeneratedLine::Pump { turns })
     }
 
     /// Appends the next call of one of the four clients, at the client's node, with a drawn operation.
@@ -281,9 +281,9 @@ impl<V: Vocabulary, A: Allocator> ScriptBuilder<V, A> {
     /// Returns a new client that replaces `before`, at any live node.
     fn next_client(&mut self, before: Client) -> Client {
         let home = self.draws.draw_member(self.live).unwrap_or(before.home);
-        self.names = self.names.saturating_add(1);
+        self.client_count = self.client_count.saturating_add(1);
         Client {
-            name: self.names,
+            name: self.client_count,
             home,
             number: 0,
             last: before.last,
@@ -308,7 +308,7 @@ impl<V: Vocabulary, A: Allocator> ScriptBuilder<V, A> {
     /// Errors: `Memory` if an allocation fails; a part of the text may then have been appended.
     ///
     /// Formats: Scripts
-    pub fn retry(&mut self) -> Result<(), Fault> {
+    pub fn repeat_last_call(&mut self) -> Result<(), Fault> {
         let place = self.draws.draw_below(4);
         let client = self.clients[place as usize];
         let node = self.draws.draw_member(self.live).unwrap_or(client.home);

@@ -29,10 +29,10 @@ impl CutSides {
 
     /// Returns the sides with only `node` on the first, and all other nodes of `nodes` on the second.
     pub fn isolation(nodes: ProcSet, node: Proc) -> CutSides {
-        let own = ProcSet::only(node);
+        let own = ProcSet::singleton(node);
         CutSides {
             first: own,
-            second: nodes.less(own),
+            second: nodes.without_members(own),
             third: ProcSet::new(),
         }
     }
@@ -47,15 +47,15 @@ impl CutSides {
             let node = Proc::new(before + 1);
             let side = draws.draw_below(many);
             if nodes.contains(node) {
-                drawn.put(side, node);
+                drawn.put_on_side(side, node);
             }
         }
         drawn
     }
 
     /// Puts the node on side `side`, counted from 0.
-    fn put(&mut self, side: u32, node: Proc) {
-        let own = ProcSet::only(node);
+    fn put_on_side(&mut self, side: u32, node: Proc) {
+        let own = ProcSet::singleton(node);
         match side {
             0 => self.first = self.first.union(own),
             1 => self.second = self.second.union(own),

@@ -20,7 +20,7 @@ IsWhole outbox = AreInOrder 0 outbox.frames × (end_of outbox.frames ≤ length 
 -- Either the frame is added after the others, with the bytes put for it, or its copies are counted as dropped, up to
 -- 2^32 - 1.
 abbrev pub IsNotedOrDropped : {A : Type 0} → ℕ → ℕ → Bool → Outbox A → Outbox A → Type 0
-IsNotedOrDropped place to is_put old new =
-    ((is_put ≡ true) × (new.dropped ≡ old.dropped)
+IsNotedOrDropped place to are_bytes_appended old new =
+    ((are_bytes_appended ≡ true) × (new.dropped ≡ old.dropped)
     × (frames_in new ≡ frames_in old ++ record { place = place; to = to; bytes = bytes_put old } ∷ []))
     ⊎ ((frames_in new ≡ frames_in old) × (new.dropped ≡ min (old.dropped + size to) (2 ^ 32 - 1)))

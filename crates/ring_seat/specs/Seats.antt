@@ -4,8 +4,8 @@ use Rattle.std.specs.Prelude.{ℕ, suc, ◌≡◌, ◌<◌, true, false, List, [
 use Rattle.atomic_table.specs.Seated.{TableId}
 use Rattle.atomic_table.specs.declared.shared.Seat.{Seat as TableSeat}
 use Rattle.ring_seat.specs.Clocks.{new_clock}
-use Rattle.ring_seat.specs.declared.clock.Clock.{Clock}
-use Rattle.ring_seat.specs.declared.rule.View.{View}
+use Rattle.ring_seat.specs.declared.turn_clock.TurnClock.{TurnClock}
+use Rattle.ring_seat.specs.declared.gauge_rule.GaugeView.{GaugeView}
 
 -- A seat as contracts see it: its gauge, its node, the lengths published on it, the words that it saw, newest first,
 -- and its clock.
@@ -14,12 +14,12 @@ pub record SeatView : Type 0 where
   pub node : Option ℕ
   pub published : List ℕ
   pub seen : List (ℕ × ℕ)
-  pub clock : Clock
+  pub clock : TurnClock
 
 -- The table's seat is this node's own, whose word is its number less one, or no node's own.
-abbrev pub IsSeated : Option ℕ → TableSeat ℕ View → Type 0
-IsSeated None s = s.me.0.owns ≡ false
-IsSeated (Some node) s = (s.me.0.owns ≡ true) × (node ≡ suc s.me.0.word) × (s.me.0.word < s.table_id.words)
+abbrev pub IsSeated : Option ℕ → TableSeat ℕ GaugeView → Type 0
+IsSeated None s = s.me.0.is_own_seat ≡ false
+IsSeated (Some node) s = (s.me.0.is_own_seat ≡ true) × (node ≡ suc s.me.0.word) × (s.me.0.word < s.table_id.words)
 
 -- the seat is at this gauge
 abbrev pub IsAt : TableId → SeatView → Type 0

@@ -8,7 +8,7 @@ ghost use Rattle.ring_base.specs.Numbers.{greatest};
 ghost use Rattle.ring_seat.specs.Gauges.{last_seen, maker_view};
 ghost use Rattle.ring_seat.specs.Seats.{IsAt, IsOwn, AreNew};
 
-use crate::rule::{ForeignSeat, GaugeRule, Look, OwnSeat, Publish, View};
+use crate::gauge_rule::{ForeignSeat, GaugeRule, GaugeView, Look, OwnSeat, Publish};
 use crate::seat::Seat;
 use atomic_table::{Seat as TableSeat, Shared, Table};
 use ring_base::{Fault, Proc};
@@ -23,7 +23,7 @@ use std::marker::Model;
 /// Rules: The book and the threads 33 and 34
 #[derive(Drop)]
 pub struct Gauge<A: Allocator + Copy + Drop = Global> {
-    table: Table<u8, View, u64, GaugeRule, A>,
+    table: Table<u8, GaugeView, u64, GaugeRule, A>,
 }
 
 impl<A: Allocator + Copy + Drop> Model for Gauge<A> {
@@ -52,7 +52,7 @@ impl<A: Allocator + Copy + Drop> Gauge<A> {
     {
         let count = u64::from(nodes);
         let words = vec![in alloc; 0u64; nodes as usize]?;
-        let (table, mut maker) = Table::<u8, View, u64, GaugeRule, A>::of_words(
+        let (table, mut maker) = Table::<u8, GaugeView, u64, GaugeRule, A>::of_words(
             alloc,
             words.as_slice(),
             &count,
@@ -107,8 +107,8 @@ impl<A: Allocator + Copy + Drop> Gauge<A> {
 /// Errors: `Memory` if an allocation fails.
 fn seats_of_nodes<A: Allocator + Copy + Drop>(
     alloc: A,
-    words: &Shared<u8, View, u64, GaugeRule>,
-    maker: &mut TableSeat<u8, View>,
+    words: &Shared<u8, GaugeView, u64, GaugeRule>,
+    maker: &mut TableSeat<u8, GaugeView>,
     nodes: u8,
 ) -> Result<Vec<Seat<A>, A>, Fault>
     requires table { maker.old.table_id ≡ words.now.table_id }
@@ -136,8 +136,8 @@ fn seats_of_nodes<A: Allocator + Copy + Drop>(
 /// Errors: `Memory` if an allocation fails.
 fn add_foreign_seats<A: Allocator + Copy + Drop>(
     alloc: A,
-    words: &Shared<u8, View, u64, GaugeRule>,
-    maker: &mut TableSeat<u8, View>,
+    words: &Shared<u8, GaugeView, u64, GaugeRule>,
+    maker: &mut TableSeat<u8, GaugeView>,
     nodes: u8,
     more: u16,
     seats: &mut Vec<Seat<A>, A>,

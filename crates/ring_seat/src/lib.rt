@@ -7,15 +7,15 @@
 //! Rules: The book and the threads 30 to 34
 #![tactic(auto)]
 
-mod clock;
 mod gauge;
+mod gauge_rule;
 mod outbox;
 mod outbox_frames;
-mod rule;
 mod seat;
+mod turn_clock;
 
-pub use clock::Clock;
 pub use gauge::Gauge;
 pub use outbox::Outbox;
 pub use outbox_frames::{OutboxFrame, OutboxFrames};
 pub use seat::Seat;
+pub use turn_clock::TurnClock;

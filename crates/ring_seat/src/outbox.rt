@@ -68,20 +68,20 @@ impl<A: Allocator + Copy + Drop> Outbox<A> {
 
     /// Adds the frame at index `place` of the line, counted from 0, with the receivers `to`.
     ///
-    /// `is_put` says whether the frame's bytes were appended to `text`, after those of the frames before it. If they
-    /// weren't, or an allocation fails, the frame is left out: its bytes are removed from `text`, and `dropped` grows
-    /// by the number of its receivers. `dropped` saturates at `u32::MAX`.
+    /// `are_bytes_appended` says whether the frame's bytes were appended to `text`, after those of the frames before
+    /// it. If they weren't, or an allocation fails, the frame is left out: its bytes are removed from `text`, and
+    /// `dropped` grows by the number of its receivers. `dropped` saturates at `u32::MAX`.
     ///
     /// Rules: The book and the threads 23
-    pub fn add_frame(&mut self, place: u16, to: ProcSet, is_put: bool)
+    pub fn add_frame(&mut self, place: u16, to: ProcSet, are_bytes_appended: bool)
         ensures line { self.new.line ≡ self.old.line }
-        ensures noted { IsNotedOrDropped place to is_put self.old self.new }
+        ensures noted { IsNotedOrDropped place to are_bytes_appended self.old self.new }
         ensures none { bytes_put self.new ≡ [] }
         ensures whole { IsWhole self.old → IsWhole self.new }
     {
-        let start = self.frames.end();
+        let start = self.frames.text_end();
         let end = self.text.len().max(start);
-        if !is_put || !self.frames.push(OutboxFrame { place, to, end }) {
+        if !are_bytes_appended || !self.frames.push(OutboxFrame { place, to, end }) {
             self.text.truncate(start);
             self.dropped = self.dropped.saturating_add(to.len());
         }
@@ -98,7 +98,7 @@ impl<A: Allocator + Copy + Drop> Outbox<A> {
         ensures none { IfNone result (IsWhole self.now → length self.now.frames ≤ index) }
     {
         let outbox_frame = self.frames.get(index)?;
-        let start = self.frames.start(index);
+        let start = self.frames.text_start(index);
         self.text.as_slice().get(start..outbox_frame.end)
     }
 }

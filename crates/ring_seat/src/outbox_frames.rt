@@ -74,7 +74,7 @@ impl<A: Allocator + Copy + Drop> OutboxFrames<A> {
     }
 
     /// Returns the index in the text at which the bytes of the last frame end, or 0 without frames.
-    pub(crate) fn end(&self) -> usize
+    pub(crate) fn text_end(&self) -> usize
         ensures end { result ≡ end_of self.now }
         ensures order { AreInOrder 0 self.now }
     {
@@ -84,8 +84,8 @@ impl<A: Allocator + Copy + Drop> OutboxFrames<A> {
     /// Returns the index in the text at which the bytes of the frame at `index` begin, which is where those before it
     /// end.
     ///
-    /// For an index after the last frame it is [`end`](OutboxFrames::end).
-    pub(crate) fn start(&self, index: usize) -> usize
+    /// For an index after the last frame it is [`text_end`](OutboxFrames::text_end).
+    pub(crate) fn text_start(&self, index: usize) -> usize
         ensures { result ≡ end_of (take index self.now) }
     {
         if index == 0 {

@@ -6,9 +6,9 @@ ghost use Rattle.std.specs.Prelude.{◌≡◌, ◌≤◌, IfSome};
 ghost use Rattle.ring_seat.specs.Seats.{IsSeated};
 ghost use Rattle.ring_seat.specs.Clocks.{new_clock, clock_counted_down, due_timeout, clock_after_turn, clock_after_item};
 
-use crate::clock::Clock;
+use crate::gauge_rule::GaugeView;
 use crate::outbox::Outbox;
-use crate::rule::View;
+use crate::turn_clock::TurnClock;
 use atomic_table::Seat as TableSeat;
 use ring_base::{Kind, Proc};
 use std::alloc::{Allocator, Global};
@@ -25,9 +25,9 @@ use std::mem;
 pub struct Seat<A: Allocator + Copy + Drop = Global> {
     /// The node whose own seat it is, or `None` for a seat of no node.
     pub(crate) node: Option<Proc>,
-    clock: Clock,
+    clock: TurnClock,
     /// The seat's handle on the gauge's words.
-    pub(crate) seat: TableSeat<u8, View>,
+    pub(crate) seat: TableSeat<u8, GaugeView>,
     outbox: Outbox<A>,
 }
 
@@ -40,7 +40,7 @@ impl<A: Allocator + Copy + Drop> Model for Seat<A> {
       gauge = s.seat.table_id;
       node = s.node;
       published = s.seat.me.0.published;
-      seen = s.seat.me.0.seen;
+      seen = s.seat.me.0.loaded_words;
       clock = s.clock;
     } };
 
@@ -53,13 +53,13 @@ impl<A: Allocator + Copy + Drop> Seat<A> {
     /// Does not allocate.
     ///
     /// Rules: The book and the threads 19
-    pub(crate) fn new(alloc: A, node: Option<Proc>, seat: TableSeat<u8, View>) -> Seat<A>
+    pub(crate) fn new(alloc: A, node: Option<Proc>, seat: TableSeat<u8, GaugeView>) -> Seat<A>
         requires { IsSeated node seat }
-        ensures { result ≡ record { gauge = seat.table_id; node = node; published = seat.me.0.published; seen = seat.me.0.seen; clock = new_clock } }
+        ensures { result ≡ record { gauge = seat.table_id; node = node; published = seat.me.0.published; seen = seat.me.0.loaded_words; clock = new_clock } }
     {
         Seat {
             node,
-            clock: Clock::new(),
+            clock: TurnClock::new(),
             seat,
             outbox: Outbox::new(alloc),
         }
@@ -78,13 +78,13 @@ impl<A: Allocator + Copy + Drop> Seat<A> {
     /// Returns a copy of the seat's clock.
     ///
     /// Rules: The book and the threads 30 to 32
-    pub fn clock(&self) -> Clock
+    pub fn clock(&self) -> TurnClock
         ensures { result ≡ self.now.clock }
     {
         self.clock
     }
 
-    /// Counts a turn that begins, and returns the timeout to run in it, or `None`, as [`Clock::tick`] does.
+    /// Counts a turn that begins, and returns the timeout to run in it, or `None`, as [`TurnClock::tick`] does.
     ///
     /// Rules: The book and the threads 31 and 32
     pub fn tick(&mut self) -> Option<Kind>
@@ -94,13 +94,14 @@ impl<A: Allocator + Copy + Drop> Seat<A> {
         self.clock.tick()
     }
 
-    /// Notes that the turn took a token or a commit token that the step didn't ignore, as [`Clock::take`] does.
+    /// Notes that the turn took a token or a commit token that the step didn't ignore, as
+    /// [`TurnClock::note_taken_token`] does.
     ///
     /// Rules: The book and the threads 31
     pub fn take(&mut self)
         ensures { self.new ≡ record (self.old) { clock = clock_after_item self.old.clock } }
     {
-        self.clock.take();
+        self.clock.note_taken_token();
     }
 
     /// Takes the outbox, with its capacity, and leaves an empty one in the seat.

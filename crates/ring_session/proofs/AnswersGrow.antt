@@ -9,11 +9,11 @@ use Rattle.ring_object.specs.Operations.{Sequential}
 use Rattle.ring_payload.specs.declared.call.Call.{Call}
 use Rattle.ring_session.specs.declared.answer.Answer.{Answer}
 use Rattle.ring_session.specs.SessionAnswer.{is_same}
-use Rattle.ring_session.specs.declared.answered.TicketAnswer.{TicketAnswer}
-use Rattle.ring_session.specs.declared.recent.KeptAnswer.{KeptAnswer}
+use Rattle.ring_session.specs.declared.ticket_answer.TicketAnswer.{TicketAnswer}
+use Rattle.ring_session.specs.declared.recent_answers.KeptAnswer.{KeptAnswer}
 use Rattle.ring_session.specs.Table.{Table, table_answer, table_next}
-use Rattle.ring_session.specs.Tickets.{TicketCall, first_place, place_of, is_place, answers_at, answers_after, kept_answers, answer_to}
-use Rattle.ring_session.specs.RecentAnswers.{last_kept, kept_of, kept_answer}
+use Rattle.ring_session.specs.Tickets.{TicketCall, first_place, answering_place, is_place, answers_at, answers_after, kept_answers, ticket_answer_in}
+use Rattle.ring_session.specs.RecentAnswers.{last_64, kept_of, recent_answer_to}
 
 -- ---- a new ticket
 
@@ -34,7 +34,7 @@ answers_at-push {A} answer done place i [] t late =
     ap (λ (o : Option ℕ). (if is_place place o then told else []) ++ []) (first_place-late t.call t.since 0 done (omega arith))
 answers_at-push {A} answer done place i (u ∷ ts) t late =
     let told : List (TicketAnswer A) = record { ticket = i; call = u.call; answer = answer } ∷ [] in
-    ap (λ w. (if is_place place (place_of done u) then told else []) ++ w) (answers_at-push answer done place (i + 1) ts t late)
+    ap (λ w. (if is_place place (answering_place done u) then told else []) ++ w) (answers_at-push answer done place (i + 1) ts t late)
 
 module _ {O A : Type 0} (object : Sequential O) where
   -- A new ticket has no answer yet.
@@ -65,8 +65,8 @@ module _ {O A : Type 0} (object : Sequential O) where
 
 -- ---- the last answers
 
-pub last_kept-append : {X : Type 0} (xs ys : List X) → last_kept (last_kept xs ++ ys) ≡ last_kept (xs ++ ys)
-last_kept-append xs ys =
+pub last_64-append : {X : Type 0} (xs ys : List X) → last_64 (last_64 xs ++ ys) ≡ last_64 (xs ++ ys)
+last_64-append xs ys =
     let k = length xs - 64 in
     let left = length-drop k xs in
     let one = length-append (drop k xs) ys in
@@ -80,7 +80,7 @@ map-drop f zero xs = refl
 map-drop f (suc n) [] = refl
 map-drop f (suc n) (x ∷ xs) = map-drop f n xs
 
-map-last : {A : Type 0} (xs : List (TicketAnswer A)) → map kept_of (kept_answers xs) ≡ last_kept (map kept_of xs)
+map-last : {A : Type 0} (xs : List (TicketAnswer A)) → map kept_of (kept_answers xs) ≡ last_64 (map kept_of xs)
 map-last {A} xs = map-drop kept_of (length xs - 64) xs ∙ ap (λ n. drop (n - 64) (map (kept_of {A = A}) xs)) (sym (length-map xs kept_of))
 
 map-append : {A : Type 0} (xs ys : List (TicketAnswer A)) → map kept_of (xs ++ ys) ≡ map kept_of xs ++ map kept_of ys
@@ -88,39 +88,39 @@ map-append [] ys = refl
 map-append (x ∷ xs) ys = ap (λ w. kept_of x ∷ w) (map-append xs ys)
 
 -- The kept part of more answers.
-pub kept-more : {A : Type 0} (xs ys : List (TicketAnswer A)) → last_kept (map kept_of (kept_answers xs) ++ map kept_of ys) ≡ map kept_of (kept_answers (xs ++ ys))
+pub kept-more : {A : Type 0} (xs ys : List (TicketAnswer A)) → last_64 (map kept_of (kept_answers xs) ++ map kept_of ys) ≡ map kept_of (kept_answers (xs ++ ys))
 kept-more {A} xs ys =
-    ap (λ w. last_kept (w ++ map (kept_of {A = A}) ys)) (map-last xs) ∙ last_kept-append (map kept_of xs) (map kept_of ys)
-    ∙ ap last_kept (sym (map-append xs ys)) ∙ sym (map-last (xs ++ ys))
+    ap (λ w. last_64 (w ++ map (kept_of {A = A}) ys)) (map-last xs) ∙ last_64-append (map kept_of xs) (map kept_of ys)
+    ∙ ap last_64 (sym (map-append xs ys)) ∙ sym (map-last (xs ++ ys))
 
 kept-step : {A : Type 0} (a : TicketAnswer A) (ticket : ℕ) (b : Bool) (o p : Option Answer) → o ≡ p
     → (if b then Some a.answer else o) ≡ (if b then Some a.answer else p)
 kept-step a ticket true o p e = refl
 kept-step a ticket false o p e = e
 
-pub kept_answer-map : {A : Type 0} (ticket : ℕ) (xs : List (TicketAnswer A)) → kept_answer ticket (map kept_of xs) ≡ answer_to ticket xs
-kept_answer-map ticket [] = refl
-kept_answer-map ticket (a ∷ xs) = kept-step a ticket (a.ticket == ticket) (kept_answer ticket (map kept_of xs))
-    (answer_to ticket xs) (kept_answer-map ticket xs)
+pub recent_answer_to-map : {A : Type 0} (ticket : ℕ) (xs : List (TicketAnswer A)) → recent_answer_to ticket (map kept_of xs) ≡ ticket_answer_in ticket xs
+recent_answer_to-map ticket [] = refl
+recent_answer_to-map ticket (a ∷ xs) = kept-step a ticket (a.ticket == ticket) (recent_answer_to ticket (map kept_of xs))
+    (ticket_answer_in ticket xs) (recent_answer_to-map ticket xs)
 
 -- The kept answers from a position on.
-pub kept_answer-next : (ticket : ℕ) (ks : List KeptAnswer) (i : ℕ) (k : KeptAnswer) → i < length ks → k ≡ get_or ks i k
-    → kept_answer ticket (drop i ks) ≡ (if k.ticket == ticket then Some k.answer else kept_answer ticket
+pub recent_answer_to-next : (ticket : ℕ) (ks : List KeptAnswer) (i : ℕ) (k : KeptAnswer) → i < length ks → k ≡ get_or ks i k
+    → recent_answer_to ticket (drop i ks) ≡ (if k.ticket == ticket then Some k.answer else recent_answer_to ticket
     (drop (i + 1) ks))
-kept_answer-next ticket ks i k lt at = ap (kept_answer ticket) (drop-next ks i k lt at)
+recent_answer_to-next ticket ks i k lt at = ap (recent_answer_to ticket) (drop-next ks i k lt at)
 
 -- Few enough answers are all kept.
-pub last_kept-few : {X : Type 0} (xs : List X) → length xs ≤ 64 → xs ≡ last_kept (xs ++ [])
-last_kept-few xs few =
+pub last_64-few : {X : Type 0} (xs : List X) → length xs ≤ 64 → xs ≡ last_64 (xs ++ [])
+last_64-few xs few =
     let none : length xs - 64 ≡ 0 = omega (arith, few) in
-    sym (ap (λ w. last_kept w) (append-nil xs) ∙ ap (λ n. drop n xs) none)
+    sym (ap (λ w. last_64 w) (append-nil xs) ∙ ap (λ n. drop n xs) none)
 
 -- One more answer.
 pub kept-next : {A : Type 0} (old now after : List KeptAnswer) (answers : List (TicketAnswer A)) (i : ℕ) (a : TicketAnswer A)
     (k : KeptAnswer) → i < length answers → a ≡ get_or answers i a → k ≡ kept_of a
-    → now ≡ last_kept (old ++ map kept_of (take i answers)) → after ≡ last_kept (now ++ k ∷ []) → after ≡ last_kept (old ++ map kept_of (take (i + 1) answers))
+    → now ≡ last_64 (old ++ map kept_of (take i answers)) → after ≡ last_64 (now ++ k ∷ []) → after ≡ last_64 (old ++ map kept_of (take (i + 1) answers))
 kept-next {A} old now after answers i a k lt at is before e =
     let more : take (i + 1) answers ≡ take i answers ++ a ∷ [] = take-next answers i a lt at in
-    e ∙ ap (λ w. last_kept (w ++ k ∷ [])) before ∙ last_kept-append (old ++ map kept_of (take i answers)) (k ∷ [])
-    ∙ ap last_kept (append_assoc old (map kept_of (take i answers)) (k ∷ []) ∙ ap (λ (x : KeptAnswer). old ++ (map kept_of (take i answers) ++ x ∷ [])) is
+    e ∙ ap (λ w. last_64 (w ++ k ∷ [])) before ∙ last_64-append (old ++ map kept_of (take i answers)) (k ∷ [])
+    ∙ ap last_64 (append_assoc old (map kept_of (take i answers)) (k ∷ []) ∙ ap (λ (x : KeptAnswer). old ++ (map kept_of (take i answers) ++ x ∷ [])) is
     ∙ ap (λ (w : List KeptAnswer). old ++ w) (sym (map-append (take i answers) (a ∷ [])) ∙ ap (λ (w : List (TicketAnswer A)). map kept_of w) (sym more)))

@@ -15,7 +15,7 @@ use Rattle.byteorder.specs.Endian.{big_bytes}
 use Rattle.byteorder.specs.Numbers.{length-bytes_high_first}
 use Rattle.ring_payload.specs.Codecs.{◌>>=◌, bind_some, passed_some}
 use Rattle.ring_session.specs.Table.{LastCall}
-use Rattle.ring_session.specs.Snapshots.{client_at, next_at, clients_at, clients_in}
+use Rattle.ring_session.specs.Snapshots.{client_at, next_client_at, clients_at, clients_in}
 
 -- ---- the last bytes of a number
 
@@ -42,7 +42,7 @@ last_written width number word le is =
 -- ---- one client read
 
 -- A client that was read is not below the required number.
-pub next_above : (low : ℕ) (bytes : List ℕ) (x : (ℕ × LastCall) × List ℕ) → next_at low bytes ≡ Some x → low ≤ x.0.0
+pub next_above : (low : ℕ) (bytes : List ℕ) (x : (ℕ × LastCall) × List ℕ) → next_client_at low bytes ≡ Some x → low ≤ x.0.0
 next_above low bytes x is =
     let a = bind_some (client_at bytes) (λ y. if nat_le low y.0.0 then Some y else None) x is in
     let g = passed_some (nat_le low a.0.0.0) a.0 x a.2 in
@@ -53,14 +53,14 @@ abbrev pub with_first : ℕ × LastCall → Option (List (ℕ × LastCall) × Li
 with_first s read = read >>= λ others. Some (s ∷ others.0, others.1)
 
 -- A client and the others.
-pub clients-next : (count i low : ℕ) (bytes : List ℕ) (s : ℕ × LastCall) (behind : List ℕ) → i < count → next_at low bytes ≡ Some (s, behind)
+pub clients-next : (count i low : ℕ) (bytes : List ℕ) (s : ℕ × LastCall) (behind : List ℕ) → i < count → next_client_at low bytes ≡ Some (s, behind)
     → clients_at (count - i) low bytes ≡ with_first s (clients_at (count - (i + 1)) (suc s.0) behind)
 unfolding clients_at
 clients-next count i low bytes s behind less is =
     let more : count - i ≡ suc (count - (i + 1)) = omega (arith, less) in
     rw (more, is) refl
 
-pub clients-none : (count i low : ℕ) (bytes : List ℕ) → i < count → next_at low bytes ≡ None → clients_at (count - i) low bytes ≡ None
+pub clients-none : (count i low : ℕ) (bytes : List ℕ) → i < count → next_client_at low bytes ≡ None → clients_at (count - i) low bytes ≡ None
 unfolding clients_at
 clients-none count i low bytes less is =
     let more : count - i ≡ suc (count - (i + 1)) = omega (arith, less) in
@@ -94,11 +94,11 @@ bind_there (Some x) f there = refl
 bind_there None f there = absurd cc
 
 -- If there are clients at the start of the bytes, there is a first one.
-pub next_there : (count i low : ℕ) (bytes : List ℕ) → i < count → IsSome (clients_at (count - i) low bytes) → IsSome (next_at low bytes)
+pub next_there : (count i low : ℕ) (bytes : List ℕ) → i < count → IsSome (clients_at (count - i) low bytes) → IsSome (next_client_at low bytes)
 unfolding clients_at
 next_there count i low bytes less there =
     let more : count - i ≡ suc (count - (i + 1)) = omega (arith, less) in
-    bind_there (next_at low bytes) (λ first. with_first first.0 (clients_at (count - (i + 1)) (suc first.0.0) first.1)) (rw more at there)
+    bind_there (next_client_at low bytes) (λ first. with_first first.0 (clients_at (count - (i + 1)) (suc first.0.0) first.1)) (rw more at there)
 
 -- ---- one client inserted after the others
 
@@ -128,7 +128,7 @@ Clients = List (ℕ × LastCall)
 
 -- The bytes after all, after one more client.
 pub behind-more : (all : Option (List ℕ)) (count i low low' : ℕ) (rest rest' : List ℕ) (s : ℕ × LastCall)
-    → all ≡ option_map (λ x. x.1) (clients_at (count - i) low rest) → i < count → next_at low rest ≡ Some (s, rest') → low' ≡ suc s.0
+    → all ≡ option_map (λ x. x.1) (clients_at (count - i) low rest) → i < count → next_client_at low rest ≡ Some (s, rest') → low' ≡ suc s.0
     → all ≡ option_map (λ x. x.1) (clients_at (count - (i + 1)) low' rest')
 behind-more all count i low low' rest rest' s is less next next_low =
     let step = clients-next count i low rest s rest' less next in
@@ -163,7 +163,7 @@ AreRead-start count bytes there =
     }
 
 pub AreRead-more : (all : Option (List (ℕ × LastCall))) (count i low low' : ℕ) (rest rest' : List ℕ) (front front' : List (ℕ × LastCall))
-    (s : ℕ × LastCall) → AreRead all count i low rest front → i < count → next_at low rest ≡ Some (s, rest') → low' ≡ suc s.0
+    (s : ℕ × LastCall) → AreRead all count i low rest front → i < count → next_client_at low rest ≡ Some (s, rest') → low' ≡ suc s.0
     → front' ≡ insert_entry nat_cmp front s.0 s.1 → AreRead all count (i + 1) low' rest' front'
 AreRead-more all count i low low' rest rest' front front' s are less next next_low put =
     let step = clients-next count i low rest s rest' less next in

@@ -9,9 +9,9 @@ use Rattle.ring_payload.specs.declared.call.Call.{Call}
 use Rattle.ring_session.specs.declared.answer.Answer.{Answer}
 use Rattle.ring_session.specs.declared.answer.Answer.TheVariants.{Done}
 use Rattle.ring_base.specs.declared.fault.Fault.TheVariants.{Stale, NumberGap, SessionsFull}
-use Rattle.ring_session.specs.Deduplicated.{count_of, may_call, takes_effect, deduplicated_after, deduplicated, StandsAt}
+use Rattle.ring_session.specs.Deduplicated.{count_of, may_call, takes_effect, deduplicated_after, deduplicated, IsCallAt}
 use Rattle.ring_session.specs.DeduplicatedLaws.{deduplicated-push, deduplicated-numbered}
-use Rattle.ring_session.specs.SessionAnswer.{refusal, is_same, repeated, call_reply}
+use Rattle.ring_session.specs.SessionAnswer.{refusal, is_same, repeated_call_answer, call_reply}
 use Rattle.ring_session.specs.SessionAnswerLaws.{one_reply, session_answer-at, session_answer-front, answered, answered-number, done_once}
 use Rattle.ring_session.specs.OneEffect.{EachIsDone, IsDoneOnce, RepliesAreTheObjects, RepliesAreOne, AnswersStay}
 
@@ -20,7 +20,7 @@ use Rattle.ring_session.specs.OneEffect.{EachIsDone, IsDoneOnce, RepliesAreTheOb
 -- The place at which a call takes effect, after the calls before.
 record EffectAt {A : Type 0} (before calls : List (Call A)) (q : ℕ) (c : Call A) : Type 0 where
   place : ℕ
-  stands : StandsAt calls place c
+  stands : IsCallAt calls place c
   taken : takes_effect (deduplicated (before ++ take place calls)) c ≡ true
   earlier : length (deduplicated (before ++ take place calls)) ≡ length (deduplicated before) + q
 
@@ -46,8 +46,8 @@ later_effect before cs d c q n effect many =
     }
 
 effect_step : {A : Type 0} (before cs : List (Call A)) (d : Call A) (b : Bool) → takes_effect (deduplicated before) d ≡ b
-    → ((q : ℕ) (c : Call A) → StandsAt (deduplicated_after (deduplicated (before ++ d ∷ [])) cs) q c → EffectAt (before ++ d ∷ []) cs q c)
-    → (q : ℕ) (c : Call A) → StandsAt (if b then d ∷ deduplicated_after (deduplicated before ++ d ∷ [])
+    → ((q : ℕ) (c : Call A) → IsCallAt (deduplicated_after (deduplicated (before ++ d ∷ [])) cs) q c → EffectAt (before ++ d ∷ []) cs q c)
+    → (q : ℕ) (c : Call A) → IsCallAt (if b then d ∷ deduplicated_after (deduplicated before ++ d ∷ [])
     cs else deduplicated_after (deduplicated before) cs) q c → EffectAt before (d ∷ cs) q c
 effect_step before cs d true is rest zero c at =
     let same : d ≡ c = cc at in
@@ -55,16 +55,16 @@ effect_step before cs d true is rest zero c at =
 effect_step before cs d true is rest (suc q) c at =
     let kept = deduplicated before in
     let grown : deduplicated (before ++ d ∷ []) ≡ kept ++ d ∷ [] = deduplicated-push before d ∙ ap (λ b. kept ++ (if b then d ∷ [] else [])) is in
-    let effect = rest q c (subst (λ w. StandsAt (deduplicated_after w cs) q c) (sym grown) at) in
+    let effect = rest q c (subst (λ w. IsCallAt (deduplicated_after w cs) q c) (sym grown) at) in
     later_effect before cs d c q (suc q) effect (omega (arith, ap length grown, length-append kept (d ∷ [])))
 effect_step before cs d false is rest q c at =
     let kept = deduplicated before in
     let same : deduplicated (before ++ d ∷ []) ≡ kept = deduplicated-push before d ∙ ap (λ b. kept ++ (if b then d ∷ [] else [])) is ∙ append-nil kept in
-    let effect = rest q c (subst (λ w. StandsAt (deduplicated_after w cs) q c) (sym same) at) in
+    let effect = rest q c (subst (λ w. IsCallAt (deduplicated_after w cs) q c) (sym same) at) in
     later_effect before cs d c q q effect (omega (arith, ap length same))
 
 effect_at : {A : Type 0} (before calls : List (Call A)) (q : ℕ) (c : Call A)
-    → StandsAt (deduplicated_after (deduplicated before) calls) q c → EffectAt before calls q c
+    → IsCallAt (deduplicated_after (deduplicated before) calls) q c → EffectAt before calls q c
 effect_at before [] q c at = absurd (cc at)
 effect_at before (d ∷ cs) q c at = effect_step before cs d (takes_effect (deduplicated before) d) refl (effect_at (before ++ d ∷ []) cs) q c at
 
@@ -82,7 +82,7 @@ module _ {O A : Type 0} (object : Sequential O) where
       let replies : ℕ → List ℕ = call_reply object (deduplicated calls) in
       let done = done_answer (c.number == count_of c.client kept + 1) (may_call kept c.client)
       (c.number == count_of c.client kept) (nat_lt c.number (count_of c.client kept))
-      (replies (length kept)) (repeated replies (position (is_same c) kept)) effect.taken in
+      (replies (length kept)) (repeated_call_answer replies (position (is_same c) kept)) effect.taken in
       let place : length kept ≡ q = omega (arith, effect.earlier) in
       (effect.place, effect.stands, session_answer-at object calls effect.place c effect.stands ∙ ap Some (done ∙ ap (λ n. Done (replies n)) place))
 

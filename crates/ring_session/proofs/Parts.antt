@@ -12,14 +12,14 @@ use Rattle.std.proofs.lemmas.List.{take-take, take_at, take_all, length-take}
 use Rattle.std.proofs.lemmas.List.Elements.{All-nil, All-cons}
 use Rattle.ring_base.specs.declared.fault.Fault.{Fault}
 use Rattle.ring_base.specs.declared.fault.Fault.TheVariants.{Memory}
-use Rattle.ring_payload.specs.Codecs.{number_at, text_at, ◌>>=◌, guard_some, some_is}
+use Rattle.ring_payload.specs.Codecs.{number_at, raw_bytes_at, ◌>>=◌, guard_some, some_injective}
 use Rattle.ring_object.specs.Bytes.{AreBytes}
 use Rattle.ring_object.specs.Snapshots.{IsSnapshotRefusal}
 use Rattle.ring_payload.specs.Operations.{op_at}
 use Rattle.ring_session.specs.Deduplicated.{max_clients}
 use Rattle.ring_session.specs.Table.{LastCall, Table, IsTable, table_of}
-use Rattle.ring_session.specs.Snapshots.{client_encoding, last_call_encoding, max_reply, reply_at, client_at, AreFrom, next_at, clients_at, clients_in}
-use Rattle.ring_session.specs.Snapshots.{AreParts, sessions_at, object_at, parts_at, table_with, restored_table}
+use Rattle.ring_session.specs.Snapshots.{client_encoding, last_call_encoding, max_reply, reply_at, client_at, AreClientsFrom, next_client_at, clients_at, clients_in}
+use Rattle.ring_session.specs.Snapshots.{AreSplitParts, sessions_at, object_at, parts_at, table_with, restored_table}
 use Rattle.ring_session.specs.SnapshotsLaws.{parts_exact}
 
 -- ---- values read, and values made of them
@@ -61,7 +61,7 @@ reply_passed : (test : Bool) (n : ℕ) (bytes : List ℕ) (at : ℕ → List ℕ
 reply_passed true n bytes at x is = (refl, reply_told (at n bytes) n x is)
 reply_passed false n bytes at x is = absurd cc
 
-text_length : (n limit : ℕ) (bytes : List ℕ) (x : List ℕ × List ℕ) → text_at n bytes ≡ Some x → n ≤ limit → length x.0 ≤ limit
+text_length : (n limit : ℕ) (bytes : List ℕ) (x : List ℕ × List ℕ) → raw_bytes_at n bytes ≡ Some x → n ≤ limit → length x.0 ≤ limit
 text_length n limit bytes x is le =
     let g = guard_some (ltb (length bytes) n) (take n bytes, drop n bytes) x is in
     let P : List ℕ × List ℕ → Type 0 = λ y. length y.0 ≤ limit in
@@ -71,36 +71,36 @@ pub reply_short : (bytes : List ℕ) (x : List ℕ × List ℕ) → reply_at byt
 unfolding reply_at
 reply_short [] x is = absurd cc
 reply_short (n ∷ bytes) x is =
-    let p = reply_passed (nat_le n max_reply) n bytes text_at x is in
+    let p = reply_passed (nat_le n max_reply) n bytes raw_bytes_at x is in
     text_length n max_reply bytes x p.1 (leb-true n max_reply p.0)
 
 -- ---- a client, step by step
 
-pub next-no_client : (low : ℕ) (bytes : List ℕ) → number_at 4 bytes ≡ None → next_at low bytes ≡ None
+pub next-no_client : (low : ℕ) (bytes : List ℕ) → number_at 4 bytes ≡ None → next_client_at low bytes ≡ None
 unfolding client_at
 next-no_client low bytes client = rw client refl
 
 pub next-no_number : (low : ℕ) (bytes : List ℕ) (client : ℕ) (b : List ℕ) → number_at 4 bytes ≡ Some (client, b) → number_at 8 b ≡ None
-    → next_at low bytes ≡ None
+    → next_client_at low bytes ≡ None
 unfolding client_at
 next-no_number low bytes client b is_client number = rw (is_client, number) refl
 
 pub next-zero : (low : ℕ) (bytes : List ℕ) (client : ℕ) (b : List ℕ) (number : ℕ) (c : List ℕ) → number_at 4 bytes ≡ Some (client, b)
-    → number_at 8 b ≡ Some (number, c) → number < 1 → next_at low bytes ≡ None
+    → number_at 8 b ≡ Some (number, c) → number < 1 → next_client_at low bytes ≡ None
 unfolding client_at
 next-zero low bytes client b number c is_client is_number zero =
     let fails : nat_le 1 number ≡ false = lt-leb 1 number zero in
     rw (is_client, is_number, fails) refl
 
 pub next-no_operation : (low : ℕ) (bytes : List ℕ) (client : ℕ) (b : List ℕ) (number : ℕ) (c : List ℕ) → number_at 4 bytes ≡ Some (client, b)
-    → number_at 8 b ≡ Some (number, c) → 1 ≤ number → op_at c ≡ None → next_at low bytes ≡ None
+    → number_at 8 b ≡ Some (number, c) → 1 ≤ number → op_at c ≡ None → next_client_at low bytes ≡ None
 unfolding client_at
 next-no_operation low bytes client b number c is_client is_number one operation =
     let passes : nat_le 1 number ≡ true = le-leb 1 number one in
     rw (is_client, is_number, passes, operation) refl
 
 pub next-no_reply : (low : ℕ) (bytes : List ℕ) (client : ℕ) (b : List ℕ) (number : ℕ) (c operation d : List ℕ) → number_at 4 bytes ≡ Some (client, b)
-    → number_at 8 b ≡ Some (number, c) → 1 ≤ number → op_at c ≡ Some (operation, d) → reply_at d ≡ None → next_at low bytes ≡ None
+    → number_at 8 b ≡ Some (number, c) → 1 ≤ number → op_at c ≡ Some (operation, d) → reply_at d ≡ None → next_client_at low bytes ≡ None
 unfolding client_at
 next-no_reply low bytes client b number c operation d is_client is_number one is_operation reply =
     let passes : nat_le 1 number ≡ true = le-leb 1 number one in
@@ -108,7 +108,7 @@ next-no_reply low bytes client b number c operation d is_client is_number one is
 
 pub next-below : (low : ℕ) (bytes : List ℕ) (client : ℕ) (b : List ℕ) (number : ℕ) (c operation d reply e : List ℕ)
     → number_at 4 bytes ≡ Some (client, b) → number_at 8 b ≡ Some (number, c) → 1 ≤ number → op_at c ≡ Some (operation, d)
-    → reply_at d ≡ Some (reply, e) → client < low → next_at low bytes ≡ None
+    → reply_at d ≡ Some (reply, e) → client < low → next_client_at low bytes ≡ None
 unfolding client_at
 next-below low bytes client b number c operation d reply e is_client is_number one is_operation is_reply below =
     let passes : nat_le 1 number ≡ true = le-leb 1 number one in
@@ -118,7 +118,7 @@ next-below low bytes client b number c operation d reply e is_client is_number o
 pub next-there : (low : ℕ) (bytes : List ℕ) (client : ℕ) (b : List ℕ) (number : ℕ) (c operation d reply e : List ℕ)
     → number_at 4 bytes ≡ Some (client, b) → number_at 8 b ≡ Some (number, c) → 1 ≤ number → op_at c ≡ Some (operation, d)
     → reply_at d ≡ Some (reply, e) → low ≤ client
-    → next_at low bytes ≡ Some ((client, record { number = number; operation = operation; reply = reply }), e)
+    → next_client_at low bytes ≡ Some ((client, record { number = number; operation = operation; reply = reply }), e)
 unfolding client_at
 next-there low bytes client b number c operation d reply e is_client is_number one is_operation is_reply above =
     let passes : nat_le 1 number ≡ true = le-leb 1 number one in
@@ -149,7 +149,7 @@ behind_none (Some x) is = absurd cc
 
 behind_some : (read : Option (Sessions × List ℕ)) (rest : List ℕ) → behind read ≡ Some rest → (ss : Sessions) × (read ≡ Some (ss, rest))
 behind_some None rest is = absurd cc
-behind_some (Some x) rest is = (x.0, ap (λ (w : List ℕ). Some (x.0, w)) (some_is x.1 rest is))
+behind_some (Some x) rest is = (x.0, ap (λ (w : List ℕ). Some (x.0, w)) (some_injective x.1 rest is))
 
 pub parts-no_clients : (bytes : List ℕ) (count : ℕ) (b : List ℕ) → number_at 2 bytes ≡ Some (count, b) → count ≤ max_clients
     → behind (clients_at count 0 b) ≡ None → parts_at bytes ≡ None
@@ -169,7 +169,7 @@ parts-no_length bytes count b c is_count few clients none =
     rw (is_count, passes, is_clients, none) refl
 
 pub parts-no_object : (bytes : List ℕ) (count : ℕ) (b c : List ℕ) (len : ℕ) (d : List ℕ) → number_at 2 bytes ≡ Some (count, b) → count ≤ max_clients
-    → behind (clients_at count 0 b) ≡ Some c → number_at 8 c ≡ Some (len, d) → text_at len d ≡ None → parts_at bytes ≡ None
+    → behind (clients_at count 0 b) ≡ Some c → number_at 8 c ≡ Some (len, d) → raw_bytes_at len d ≡ None → parts_at bytes ≡ None
 unfolding parts_at sessions_at object_at
 parts-no_object bytes count b c len d is_count few clients is_len none =
     let passes : nat_le count max_clients ≡ true = le-leb count max_clients few in
@@ -178,7 +178,7 @@ parts-no_object bytes count b c len d is_count few clients is_len none =
     rw (is_count, passes, is_clients, is_len, none) refl
 
 pub parts-more : (bytes : List ℕ) (count : ℕ) (b c : List ℕ) (len : ℕ) (d object e : List ℕ) → number_at 2 bytes ≡ Some (count, b)
-    → count ≤ max_clients → behind (clients_at count 0 b) ≡ Some c → number_at 8 c ≡ Some (len, d) → text_at len d ≡ Some (object, e)
+    → count ≤ max_clients → behind (clients_at count 0 b) ≡ Some c → number_at 8 c ≡ Some (len, d) → raw_bytes_at len d ≡ Some (object, e)
     → (length e == 0) ≡ false → parts_at bytes ≡ None
 unfolding parts_at sessions_at object_at
 parts-more bytes count b c len d object e is_count few clients is_len is_object more =
@@ -188,8 +188,8 @@ parts-more bytes count b c len d object e is_count few clients is_len is_object 
     rw (is_count, passes, is_clients, is_len, is_object, more) refl
 
 pub parts-there : (bytes : List ℕ) (count : ℕ) (b c : List ℕ) (len : ℕ) (d object e : List ℕ) → number_at 2 bytes ≡ Some (count, b)
-    → count ≤ max_clients → behind (clients_at count 0 b) ≡ Some c → number_at 8 c ≡ Some (len, d) → text_at len d ≡ Some (object, e)
-    → (length e == 0) ≡ true → AreParts bytes (Some (count, b, object))
+    → count ≤ max_clients → behind (clients_at count 0 b) ≡ Some c → number_at 8 c ≡ Some (len, d) → raw_bytes_at len d ≡ Some (object, e)
+    → (length e == 0) ≡ true → AreSplitParts bytes (Some (count, b, object))
 unfolding parts_at sessions_at object_at
 parts-there bytes count b c len d object e is_count few clients is_len is_object none =
     let passes : nat_le count max_clients ≡ true = le-leb count max_clients few in
@@ -200,7 +200,7 @@ parts-there bytes count b c len d object e is_count few clients is_len is_object
 
 -- ---- the table of the parts
 
-numbered : (low : ℕ) (ss : Sessions) → AreFrom low ss → All (λ (last : LastCall). 1 ≤ last.number) (values_of ss)
+numbered : (low : ℕ) (ss : Sessions) → AreClientsFrom low ss → All (λ (last : LastCall). 1 ≤ last.number) (values_of ss)
 numbered low [] are = All-nil (λ (last : LastCall). 1 ≤ last.number)
 numbered low (s ∷ ss) are = All-cons (λ (last : LastCall). 1 ≤ last.number) s.1 (values_of ss) are.0.number (numbered (suc s.0) ss are.2)
 
@@ -208,7 +208,7 @@ refuses_map : {A B : Type 0} (f : A → B) (read : Option A) (fault : Fault) →
 refuses_map f (Some x) fault refuses = refuses
 refuses_map f None fault refuses = refuses
 
-module _ {O : Type 0} (restored : List ℕ → Option O) (bytes : List ℕ) (count : ℕ) (clients object : List ℕ) (parts : AreParts bytes (Some (count, clients, object))) where
+module _ {O : Type 0} (restored : List ℕ → Option O) (bytes : List ℕ) (count : ℕ) (clients object : List ℕ) (parts : AreSplitParts bytes (Some (count, clients, object))) where
   table_is : (ss : Sessions) → clients_in count clients ≡ Some ss → restored_table restored bytes ≡ option_map (table_of ss) (restored object)
   table_is ss is =
       let whole : parts_at bytes ≡ Some (ss, object) = parts.2 ∙ ap (option_map (λ (w : Sessions). (w, object))) is in

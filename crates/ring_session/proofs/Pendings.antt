@@ -14,15 +14,15 @@ use Rattle.ring_payload.specs.declared.call.Call.{Call}
 use Rattle.ring_session.specs.declared.answer.Answer.{Answer}
 use Rattle.ring_session.specs.SessionAnswer.{is_same}
 use Rattle.ring_session.specs.Table.{Table, table_answer, table_next}
-use Rattle.ring_session.specs.declared.answered.TicketAnswer.{TicketAnswer}
-use Rattle.ring_session.specs.declared.pending.Pending.{Pending}
-use Rattle.ring_session.specs.RecentAnswers.{last_kept, kept_of, kept_answer}
-use Rattle.ring_session.specs.Tickets.{TicketCall, first_place, place_of, unanswered, is_place, answers_at}
-use Rattle.ring_session.specs.Tickets.{answers_after, kept_answers, answer_to}
-use Rattle.ring_session.specs.Pendings.{Tickets, is_full, with_ticket, contains_call, answer_for, answers_to, answers_behind}
-use Rattle.ring_session.specs.Pendings.{unanswered_by, with_answers, pending_from, AreTickets}
+use Rattle.ring_session.specs.declared.ticket_answer.TicketAnswer.{TicketAnswer}
+use Rattle.ring_session.specs.declared.pending_ticket.PendingTicket.{PendingTicket}
+use Rattle.ring_session.specs.RecentAnswers.{last_64, kept_of, recent_answer_to}
+use Rattle.ring_session.specs.Tickets.{TicketCall, first_place, answering_place, unanswered_tickets, is_place, answers_at}
+use Rattle.ring_session.specs.Tickets.{answers_after, kept_answers, ticket_answer_in}
+use Rattle.ring_session.specs.TicketsState.{Tickets, may_give_no_ticket, with_ticket, contains_call, answer_for, answers_to, answers_after_committed}
+use Rattle.ring_session.specs.TicketsState.{unanswered_by, with_answers, pending_from, AreTickets}
 use Rattle.ring_session.proofs.TicketPlaces.{first_place-below, place-push}
-use Rattle.ring_session.proofs.AnswersGrow.{first_place-late, kept-more, kept_answer-map}
+use Rattle.ring_session.proofs.AnswersGrow.{first_place-late, kept-more, recent_answer_to-map}
 
 -- ---- places of calls done later
 
@@ -52,12 +52,12 @@ none-append c since at (x ∷ xs) ys early =
 
 -- A ticket has no answer yet if it had none and its call isn't among those done since.
 unplaced : {A : Type 0} (t : TicketCall A) (committed more : List (Call A)) → t.since ≤ length committed
-    → is_none (place_of (committed ++ more) t) ≡ is_none (place_of committed t) && not (contains_call more t.call)
+    → is_none (answering_place (committed ++ more) t) ≡ is_none (answering_place committed t) && not (contains_call more t.call)
 unplaced t committed more early = none-append t.call t.since 0 committed more (omega arith)
 
 -- ---- the remaining tickets
 
-left-step : {A : Type 0} (more : List (Call A)) (p : Pending A) (rest rest' : List (Pending A)) (b : Bool) → unanswered_by more rest ≡ rest'
+left-step : {A : Type 0} (more : List (Call A)) (p : PendingTicket A) (rest rest' : List (PendingTicket A)) (b : Bool) → unanswered_by more rest ≡ rest'
     → unanswered_by more (if b then p ∷ rest else rest) ≡ (if b && not (contains_call more p.call) then p ∷ rest' else rest')
 left-step more p rest rest' true e = ap (λ w. if not (contains_call more p.call) then p ∷ w else w) e
 left-step more p rest rest' false e = e
@@ -66,9 +66,9 @@ left-pending : {A : Type 0} (committed more : List (Call A)) (i : ℕ) (ts : Lis
     → unanswered_by more (pending_from committed i ts) ≡ pending_from (committed ++ more) i ts
 left-pending committed more i [] early = refl
 left-pending {A} committed more i (t ∷ ts) early =
-    let p : Pending A = record { ticket = i; call = t.call } in
+    let p : PendingTicket A = record { ticket = i; call = t.call } in
     let rest' = pending_from (committed ++ more) (i + 1) ts in
-    left-step more p (pending_from committed (i + 1) ts) rest' (is_none (place_of committed t)) (left-pending committed more (i + 1) ts early.1)
+    left-step more p (pending_from committed (i + 1) ts) rest' (is_none (answering_place committed t)) (left-pending committed more (i + 1) ts early.1)
     ∙ ap (λ b. if b then p ∷ rest' else rest') (sym (unplaced t committed more early.0))
 
 -- ---- the answers of one call
@@ -101,7 +101,7 @@ answer-step {A} b stands same a None o' n told here tail none is below one e = n
         ∙ sym (ap (λ (w : Bool). (if w then told else []) ++ tail) (ap (is_place n) is ∙ eq-eqb n n refl))
     new true false false none is = e ∙ sym (ap (λ (w : Option ℕ). (if is_place n w then told else []) ++ tail) is)
 
-answers-if : {A : Type 0} (before : List (Call A)) (c : Call A) (answer : Answer) (p : Pending A) (rest : List (Pending A)) (b : Bool)
+answers-if : {A : Type 0} (before : List (Call A)) (c : Call A) (answer : Answer) (p : PendingTicket A) (rest : List (PendingTicket A)) (b : Bool)
     → answers_to before c answer (if b then p ∷ rest else rest) ≡
     (if b then answer_for before c answer p ++ answers_to before c answer rest else answers_to before c answer rest)
 answers-if before c answer p rest true = refl
@@ -116,10 +116,10 @@ answers-at : {A : Type 0} (answer : Answer) (done before : List (Call A)) (c : C
 answers-at answer done before c i [] early = refl
 answers-at {A} answer done before c i (t ∷ ts) early =
     let all = done ++ before in
-    let p : Pending A = record { ticket = i; call = t.call } in
+    let p : PendingTicket A = record { ticket = i; call = t.call } in
     let a : TicketAnswer A = record { ticket = i; call = t.call; answer = answer } in
-    answers-if before c answer p (pending_from done (i + 1) ts) (is_none (place_of done t))
-    ∙ answer-step (is_none (place_of done t)) (contains_call before t.call) (is_same t.call c) a (place_of all t) (place_of (all ++ c ∷ []) t) (length all)
+    answers-if before c answer p (pending_from done (i + 1) ts) (is_none (answering_place done t))
+    ∙ answer-step (is_none (answering_place done t)) (contains_call before t.call) (is_same t.call c) a (answering_place all t) (answering_place (all ++ c ∷ []) t) (length all)
     (a ∷ []) (answers_to before c answer (pending_from done (i + 1) ts)) (answers_at answer (all ++ c ∷ []) (length all) (i + 1) ts)
     (unplaced t done before early.0) (place-push all t c (earlier done before t early.0))
     (λ q h. omega (arith, first_place-below t.call t.since 0 all q h)) refl (answers-at answer done before c (i + 1) ts early.1)
@@ -128,21 +128,21 @@ answers-at {A} answer done before c i (t ∷ ts) early =
 
 module _ {O A : Type 0} (object : Sequential O) where
   answers-of : (table : Table O) (asked : List (TicketCall A)) (done before more : List (Call A)) → AllByRecursion (λ (t : TicketCall A). t.since ≤ length done) asked
-      → answers_behind object table (pending_from done 0 asked) before more ≡ answers_after object table asked (done ++ before) more
+      → answers_after_committed object table (pending_from done 0 asked) before more ≡ answers_after object table asked (done ++ before) more
   answers-of table asked done before [] early = refl
   answers-of table asked done before (c ∷ more) early =
       let all = done ++ before in
       let answer = table_answer object table c in
       let next = table_next object table c in
       let assoc : done ++ (before ++ c ∷ []) ≡ all ++ c ∷ [] = sym (append_assoc done before (c ∷ [])) in
-      ap (λ w. w ++ answers_behind object next (pending_from done 0 asked) (before ++ c ∷ []) more) (answers-at answer done before c 0 asked early)
+      ap (λ w. w ++ answers_after_committed object next (pending_from done 0 asked) (before ++ c ∷ []) more) (answers-at answer done before c 0 asked early)
       ∙ ap (λ w. answers_at answer (all ++ c ∷ []) (length all) 0 asked ++ w)
       (answers-of next asked done (before ++ c ∷ []) more early ∙ ap (λ (w : List (Call A)). answers_after object next asked w more) assoc)
 
   pub are-answers : (table : Table O) (asked : List (TicketCall A)) (done more : List (Call A)) (all : List (TicketAnswer A)) (t : Tickets A)
-      → AreTickets asked done all t → answers_behind object table t.pending [] more ≡ answers_after object table asked done more
+      → AreTickets asked done all t → answers_after_committed object table t.pending [] more ≡ answers_after object table asked done more
   are-answers table asked done more all t are =
-      ap (λ (w : List (Pending A)). answers_behind object table w [] more) are.pending
+      ap (λ (w : List (PendingTicket A)). answers_after_committed object table w [] more) are.pending
       ∙ answers-of table asked done [] more are.early ∙ ap (λ (w : List (Call A)). answers_after object table asked w more) (append-nil done)
 
 -- ---- the kept state
@@ -160,7 +160,7 @@ module _ {A : Type 0} where
         given = are.given;
         early = early-more done more asked are.early;
         pending = ap (unanswered_by more) are.pending ∙ left-pending done more 0 asked are.early;
-        kept = ap (λ w. last_kept (w ++ map (kept_of {A = A}) new)) are.kept ∙ kept-more all new;
+        kept = ap (λ w. last_64 (w ++ map (kept_of {A = A}) new)) are.kept ∙ kept-more all new;
       }
 
   early-push : (committed : List (Call A)) (ts : List (TicketCall A)) (t : TicketCall A) → t.since ≤ length committed
@@ -169,30 +169,30 @@ module _ {A : Type 0} where
   early-push committed [] t last early = (last, tt)
   early-push committed (u ∷ ts) t last early = (early.0, early-push committed ts t last early.1)
 
-  pending-step : (i : ℕ) (c : Call A) (rest : List (Pending A)) (p : Pending A) (more : List (Pending A)) (b : Bool) → more ≡ rest ++ p ∷ []
+  pending-step : (i : ℕ) (c : Call A) (rest : List (PendingTicket A)) (p : PendingTicket A) (more : List (PendingTicket A)) (b : Bool) → more ≡ rest ++ p ∷ []
       → (if b then record { ticket = i; call = c } ∷ more else more) ≡ (if b then record { ticket = i; call = c } ∷ rest else rest) ++ p ∷ []
-  pending-step i c rest p more true e = ap (λ (w : List (Pending A)). record { ticket = i; call = c } ∷ w) e
+  pending-step i c rest p more true e = ap (λ (w : List (PendingTicket A)). record { ticket = i; call = c } ∷ w) e
   pending-step i c rest p more false e = e
 
   -- A new ticket has no answer.
   pending-push : (committed : List (Call A)) (i : ℕ) (ts : List (TicketCall A)) (t : TicketCall A) → length committed ≤ t.since
       → pending_from committed i (ts ++ t ∷ []) ≡ pending_from committed i ts ++ record { ticket = i + length ts; call = t.call } ∷ []
   pending-push committed i [] t late =
-      let one : ℕ → List (Pending A) = λ k. record { ticket = k; call = t.call } ∷ [] in
+      let one : ℕ → List (PendingTicket A) = λ k. record { ticket = k; call = t.call } ∷ [] in
       let e : i ≡ i + 0 = omega arith in
       ap (λ (o : Option ℕ). if is_none o then one i else []) (first_place-late t.call t.since 0 committed (omega arith)) ∙ ap one e
   pending-push committed i (u ∷ ts) t late =
       let e : i + 1 + length ts ≡ i + suc (length ts) = omega arith in
-      let last : ℕ → Pending A = λ k. record { ticket = k; call = t.call } in
+      let last : ℕ → PendingTicket A = λ k. record { ticket = k; call = t.call } in
       pending-step i u.call (pending_from committed (i + 1) ts) (last (i + suc (length ts))) (pending_from committed (i + 1) (ts ++ t ∷ []))
-      (is_none (place_of committed u))
+      (is_none (answering_place committed u))
       (pending-push committed (i + 1) ts t late ∙ ap (λ k. pending_from committed (i + 1) ts ++ last k ∷ []) e)
 
   pub are-given : (asked : List (TicketCall A)) (done : List (Call A)) (all : List (TicketAnswer A)) (t : Tickets A) (c : Call A) → AreTickets asked done all t
       → AreTickets (asked ++ record { call = c; since = length done } ∷ []) done all (with_ticket t c)
   are-given asked done all t c are =
       let new : TicketCall A = record { call = c; since = length done } in
-      let last : ℕ → Pending A = λ k. record { ticket = k; call = c } in
+      let last : ℕ → PendingTicket A = λ k. record { ticket = k; call = c } in
       let number : t.given ≡ 0 + length asked = omega (arith, are.given) in
       record {
         given = omega (arith, are.given, length-append asked (new ∷ []));
@@ -202,42 +202,42 @@ module _ {A : Type 0} where
         kept = are.kept;
       }
 
-  length-step : (p : Pending A) (t : TicketCall A) (rest : List (Pending A)) (ts : List (TicketCall A)) (b : Bool) → length rest ≡ length ts
+  length-step : (p : PendingTicket A) (t : TicketCall A) (rest : List (PendingTicket A)) (ts : List (TicketCall A)) (b : Bool) → length rest ≡ length ts
       → length (if b then p ∷ rest else rest) ≡ length (if b then t ∷ ts else ts)
   length-step p t rest ts true e = ap suc e
   length-step p t rest ts false e = e
 
-  length-pending : (committed : List (Call A)) (i : ℕ) (ts : List (TicketCall A)) → length (pending_from committed i ts) ≡ length (unanswered committed ts)
+  length-pending : (committed : List (Call A)) (i : ℕ) (ts : List (TicketCall A)) → length (pending_from committed i ts) ≡ length (unanswered_tickets committed ts)
   length-pending committed i [] = refl
   length-pending committed i (t ∷ ts) =
-      length-step (record { ticket = i; call = t.call }) t (pending_from committed (i + 1) ts) (unanswered committed ts) (is_none (place_of committed t))
+      length-step (record { ticket = i; call = t.call }) t (pending_from committed (i + 1) ts) (unanswered_tickets committed ts) (is_none (answering_place committed t))
       (length-pending committed (i + 1) ts)
 
   pub are-full : (asked : List (TicketCall A)) (done : List (Call A)) (all : List (TicketAnswer A)) (t : Tickets A) → AreTickets asked done all t
-      → is_full t ≡ nat_le 64 (length (unanswered done asked)) || nat_le max_number (length asked)
+      → may_give_no_ticket t ≡ nat_le 64 (length (unanswered_tickets done asked)) || nat_le max_number (length asked)
   are-full asked done all t are =
-      let many : length t.pending ≡ length (unanswered done asked) = ap length are.pending ∙ length-pending done 0 asked in
-      ap (λ n. nat_le 64 n || nat_le max_number t.given) many ∙ ap (λ n. nat_le 64 (length (unanswered done asked)) || nat_le max_number n) are.given
+      let many : length t.pending ≡ length (unanswered_tickets done asked) = ap length are.pending ∙ length-pending done 0 asked in
+      ap (λ n. nat_le 64 n || nat_le max_number t.given) many ∙ ap (λ n. nat_le 64 (length (unanswered_tickets done asked)) || nat_le max_number n) are.given
 
   pub are-replies : (asked : List (TicketCall A)) (done : List (Call A)) (all : List (TicketAnswer A)) (t : Tickets A) (ticket : ℕ) → AreTickets asked done all t
-      → kept_answer ticket t.kept ≡ answer_to ticket (kept_answers all)
-  are-replies asked done all t ticket are = ap (kept_answer ticket) are.kept ∙ kept_answer-map ticket (kept_answers all)
+      → recent_answer_to ticket t.kept ≡ ticket_answer_in ticket (kept_answers all)
+  are-replies asked done all t ticket are = ap (recent_answer_to ticket) are.kept ∙ recent_answer_to-map ticket (kept_answers all)
 
 -- ---- one more committed call goes through the sessions
 
-pub answers-on : {O A : Type 0} (object : Sequential O) (t t' : Table O) (pending : List (Pending A)) (more front : List (Call A)) (i : ℕ) (c : Call A)
+pub answers-on : {O A : Type 0} (object : Sequential O) (t t' : Table O) (pending : List (PendingTicket A)) (more front : List (Call A)) (i : ℕ) (c : Call A)
     (a : Answer) (all before after : List (TicketAnswer A))
     → drop i more ≡ c ∷ drop (i + 1) more → take (i + 1) more ≡ take i more ++ c ∷ [] → front ≡ take i more → a ≡ table_answer object t c
     → t' ≡ table_next object t c
-    → after ≡ before ++ answers_to front c a pending → all ≡ before ++ answers_behind object t pending (take i more) (drop i more)
-    → all ≡ after ++ answers_behind object t' pending (take (i + 1) more) (drop (i + 1) more)
+    → after ≡ before ++ answers_to front c a pending → all ≡ before ++ answers_after_committed object t pending (take i more) (drop i more)
+    → all ≡ after ++ answers_after_committed object t' pending (take (i + 1) more) (drop (i + 1) more)
 answers-on {O} {A} object t t' pending more front i c a all before after rest first is answer table told e =
     let left : List (Call A) = drop (i + 1) more in
-    let behind : List (Call A) → List (TicketAnswer A) = λ w. answers_behind object (table_next object t c) pending w left in
-    e ∙ ap (λ w. before ++ answers_behind object t pending (take i more) w) rest
+    let behind : List (Call A) → List (TicketAnswer A) = λ w. answers_after_committed object (table_next object t c) pending w left in
+    e ∙ ap (λ w. before ++ answers_after_committed object t pending (take i more) w) rest
     ∙ sym (append_assoc before (answers_to (take i more) c (table_answer object t c) pending) (behind (take i more ++ c ∷ [])))
     ∙ ap (λ b. (before ++ answers_to (take i more) c b pending) ++ behind (take i more ++ c ∷ [])) (sym answer)
     ∙ ap (λ w. (before ++ answers_to w c a pending) ++ behind (take i more ++ c ∷ [])) (sym is)
     ∙ ap (λ w. w ++ behind (take i more ++ c ∷ [])) (sym told)
     ∙ ap (λ w. after ++ behind w) (sym first)
-    ∙ ap (λ (u : Table O). after ++ answers_behind object u pending (take (i + 1) more) left) (sym table)
+    ∙ ap (λ (u : Table O). after ++ answers_after_committed object u pending (take (i + 1) more) left) (sym table)

@@ -17,25 +17,25 @@ use Rattle.ring_object.specs.Bytes.{AreBytes}
 use Rattle.ring_object.specs.Operations.{Sequential, IsReply}
 use Rattle.ring_payload.specs.declared.call.Call.{Call}
 use Rattle.ring_session.specs.Deduplicated.{max_clients}
-use Rattle.ring_session.specs.Snapshots.{AreFrom, ClientFits, HasSnapshot, KeepsLimits}
-use Rattle.ring_session.specs.Table.{LastCall, Table, table_of, last_call, last_number, session_of, is_taken, table_next, table_after, opening}
+use Rattle.ring_session.specs.Snapshots.{AreClientsFrom, ClientFits, HasSnapshot, KeepsLimits}
+use Rattle.ring_session.specs.Table.{LastCall, Table, table_of, last_call, last_number, session_of, takes_effect_in_table, table_next, table_after, opening}
 use Rattle.ring_session.proofs.Entries.{set_value-known, length-new}
 
 -- ---- ascending clients
 
-all_above : (x low : ℕ) (ss : List (ℕ × LastCall)) → x < low → AreFrom low ss → AllByRecursion (λ y. nat_cmp x y ≡ Less) (keys_of ss)
+all_above : (x low : ℕ) (ss : List (ℕ × LastCall)) → x < low → AreClientsFrom low ss → AllByRecursion (λ y. nat_cmp x y ≡ Less) (keys_of ss)
 all_above x low [] less are = tt
 all_above x low (s ∷ ss) less are =
     (sym (nat_cmp_is x s.0 Less (omega (arith, less, are.1))), all_above x (suc s.0) ss (omega (arith, less, are.1)) are.2)
 
-AreFrom-sorted : (low : ℕ) (ss : List (ℕ × LastCall)) → AreFrom low ss → IsStrictlySortedBy nat_cmp (keys_of ss)
+AreClientsFrom-sorted : (low : ℕ) (ss : List (ℕ × LastCall)) → AreClientsFrom low ss → IsStrictlySortedBy nat_cmp (keys_of ss)
 unfolding IsStrictlySortedBy
-AreFrom-sorted low [] are = tt
-AreFrom-sorted low (s ∷ ss) are = (all_above s.0 (suc s.0) ss (omega arith) are.2, AreFrom-sorted (suc s.0) ss are.2)
+AreClientsFrom-sorted low [] are = tt
+AreClientsFrom-sorted low (s ∷ ss) are = (all_above s.0 (suc s.0) ss (omega arith) are.2, AreClientsFrom-sorted (suc s.0) ss are.2)
 
 from_step : (low : ℕ) (s : ℕ × LastCall) (ss : List (ℕ × LastCall)) (client : ℕ) (last : LastCall) (o : Ordering) → o ≡ nat_cmp client s.0
-    → ClientFits (client, last) → low ≤ client → AreFrom low (s ∷ ss) → (suc s.0 ≤ client → AreFrom (suc s.0) (insert_entry nat_cmp ss client last))
-    → AreFrom low (match_ordering o ((client, last) ∷ s ∷ ss) ((s.0, last) ∷ ss) (s ∷ insert_entry nat_cmp ss client last))
+    → ClientFits (client, last) → low ≤ client → AreClientsFrom low (s ∷ ss) → (suc s.0 ≤ client → AreClientsFrom (suc s.0) (insert_entry nat_cmp ss client last))
+    → AreClientsFrom low (match_ordering o ((client, last) ∷ s ∷ ss) ((s.0, last) ∷ ss) (s ∷ insert_entry nat_cmp ss client last))
 from_step low s ss client last Less is fits le are rest =
     (fits, le, (are.0, omega (arith, ranked client s.0 Less is), are.2))
 from_step low s ss client last Equal is fits le are rest =
@@ -44,11 +44,11 @@ from_step low s ss client last Equal is fits le are rest =
 from_step low s ss client last Greater is fits le are rest =
     (are.0, are.1, rest (omega (arith, ranked client s.0 Greater is)))
 
-AreFrom-insert : (low : ℕ) (ss : List (ℕ × LastCall)) (client : ℕ) (last : LastCall) → ClientFits (client, last) → low ≤ client → AreFrom low ss
-    → AreFrom low (insert_entry nat_cmp ss client last)
-AreFrom-insert low [] client last fits le are = (fits, le, tt)
-AreFrom-insert low (s ∷ ss) client last fits le are =
-    from_step low s ss client last (nat_cmp client s.0) refl fits le are (λ above. AreFrom-insert (suc s.0) ss client last fits above are.2)
+AreClientsFrom-insert : (low : ℕ) (ss : List (ℕ × LastCall)) (client : ℕ) (last : LastCall) → ClientFits (client, last) → low ≤ client → AreClientsFrom low ss
+    → AreClientsFrom low (insert_entry nat_cmp ss client last)
+AreClientsFrom-insert low [] client last fits le are = (fits, le, tt)
+AreClientsFrom-insert low (s ∷ ss) client last fits le are =
+    from_step low s ss client last (nat_cmp client s.0) refl fits le are (λ above. AreClientsFrom-insert (suc s.0) ss client last fits above are.2)
 
 -- ---- few clients
 
@@ -70,13 +70,13 @@ module _ {O A : Type 0} (object : Sequential O) (IsContent : O → Type 0)
   one_call table c limits has =
       let reply = object.reply table.content c.op in
       let put = table_of (insert_entry nat_cmp table.sessions c.client (last_call c reply)) (object.next table.content c.op) in
-      cond_both (is_taken table c) put table (λ t. HasSnapshot IsContent t)
+      cond_both (takes_effect_in_table table c) put table (λ t. HasSnapshot IsContent t)
       (λ taken.
       let room = (and_parts (c.number == last_number (session_of table c.client) + 1) _ taken).1 in
       record {
         few = few_step table.sessions c.client (last_call c reply) (session_of table c.client) refl
-            (AreFrom-sorted 0 table.sessions has.clients) has.few room;
-        clients = AreFrom-insert 0 table.sessions c.client (last_call c reply) (record {
+            (AreClientsFrom-sorted 0 table.sessions has.clients) has.few room;
+        clients = AreClientsFrom-insert 0 table.sessions c.client (last_call c reply) (record {
           client = limits.fits.client;
           number = limits.fits.number;
           number_fits = limits.fits.number_fits;

@@ -25,14 +25,14 @@ use Rattle.ring_object.proofs.Contents.{content_after-append}
 use Rattle.ring_payload.specs.declared.call.Call.{Call}
 use Rattle.ring_session.specs.declared.answer.Answer.{Answer}
 use Rattle.ring_session.specs.declared.answer.Answer.TheVariants.{Done, Kept}
-use Rattle.ring_session.specs.Deduplicated.{is_of, count_of, client_count, max_clients, may_call, takes_effect, deduplicated, StandsAt, operations}
+use Rattle.ring_session.specs.Deduplicated.{is_of_client, count_of, client_count, max_clients, may_call, takes_effect, deduplicated, IsCallAt, operations}
 use Rattle.ring_session.specs.DeduplicatedLaws.{count_of-push_own, count_of-push_other}
 use Rattle.ring_session.specs.DeduplicatedLaws.{deduplicated-push, deduplicated-front, deduplicated-numbered}
 use Rattle.ring_session.specs.DeduplicatedLaws.{numbered_once, takes_effect-number}
-use Rattle.ring_session.specs.SessionAnswer.{refusal, is_same, repeated, answer_after, call_reply, session_answer, is_done}
+use Rattle.ring_session.specs.SessionAnswer.{refusal, is_same, repeated_call_answer, answer_after, call_reply, session_answer, is_done}
 use Rattle.ring_session.specs.SessionAnswerLaws.{call_reply-front, position-is_same, session_answer-at, same_cases}
-use Rattle.ring_session.specs.Table.{LastCall, Table, table_of, opening, session_of, last_number, last_call, has_room}
-use Rattle.ring_session.specs.Table.{is_taken, kept_answer, other_answer, table_answer, table_next, table_after}
+use Rattle.ring_session.specs.Table.{LastCall, Table, table_of, opening, session_of, last_number, last_call, has_room_for_client}
+use Rattle.ring_session.specs.Table.{takes_effect_in_table, last_call_answer, answer_unless_next, table_answer, table_next, table_after}
 use Rattle.ring_session.proofs.Entries.{set_value-known, length-new, lookup-insert_same, lookup-insert_other, sorted_none, sorted_insert}
 
 -- ---- the content of a table
@@ -46,7 +46,7 @@ module _ {O : Type 0} (object : Sequential O) where
   abbrev pub IsLastOf : {A : Type 0} → List (Call A) → ℕ → Option LastCall → Type 0
   IsLastOf kept client None = count_of client kept ≡ 0
   IsLastOf kept client (Some last) = (last.number ≡ count_of client kept)
-      × ((q : ℕ) × StandsAt kept q (as_call client last) × (call_reply object kept q ≡ last.reply))
+      × ((q : ℕ) × IsCallAt kept q (as_call client last) × (call_reply object kept q ≡ last.reply))
 
   -- The table holds the results of these calls, which took effect.
   pub record Holds {A : Type 0} (kept : List (Call A)) (table : Table O) : Type 0 where
@@ -72,7 +72,7 @@ client_count-push [] c = refl
 client_count-push {A} (x ∷ cs) c =
     let rest : client_count (cs ++ c ∷ []) ≡ client_count cs + (if count_of c.client cs == 0 then 1 else 0) = client_count-push cs c in
     let front : count_of c.client (x ∷ cs) ≡ (if x.client == c.client then 1 else 0) + count_of c.client cs =
-    sum_by-cons (λ (y : Call A). if is_of c.client y then 1 else 0) x cs in
+    sum_by-cons (λ (y : Call A). if is_of_client c.client y then 1 else 0) x cs in
     elim (cases_eq x.client c.client) [
       | inl same ↦
           let one : count_of c.client (x ∷ cs) ≡ 1 + count_of c.client cs = front ∙ ap (λ n. n + count_of c.client cs)
@@ -117,15 +117,15 @@ module _ {O A : Type 0} (object : Sequential O) where
       sym (lt-ltb 0 (count_of client (deduplicated calls)) (omega (arith, is.0, number)))
 
   room-is : (calls : List (Call A)) (table : Table O) (client : ℕ) → Holds object (deduplicated calls) table
-      → has_room table client ≡ may_call (deduplicated calls) client
+      → has_room_for_client table client ≡ may_call (deduplicated calls) client
   room-is calls table client holds =
       ap (λ b. b || nat_lt (length table.sessions) max_clients) (known-is calls client (session_of table client) (holds.known client))
       ∙ ap (λ n. nat_lt 0 (count_of client (deduplicated calls)) || nat_lt n max_clients) holds.many
 
   taken-is : (calls : List (Call A)) (table : Table O) (c : Call A) → Holds object (deduplicated calls) table
-      → is_taken table c ≡ takes_effect (deduplicated calls) c
+      → takes_effect_in_table table c ≡ takes_effect (deduplicated calls) c
   taken-is calls table c holds =
-      ap (λ n. (c.number == n + 1) && has_room table c.client) (last_number-is (deduplicated calls) c.client (session_of table c.client) (holds.known c.client))
+      ap (λ n. (c.number == n + 1) && has_room_for_client table c.client) (last_number-is (deduplicated calls) c.client (session_of table c.client) (holds.known c.client))
       ∙ ap (λ b. (c.number == count_of c.client (deduplicated calls) + 1) && b) (room-is calls table c.client holds)
 
   -- ---- a call
@@ -257,7 +257,7 @@ module _ {O A : Type 0} (object : Sequential O) where
       → ((q : ℕ) → q < length (deduplicated calls) → replies q ≡ call_reply object (deduplicated calls) q)
       → (last : LastCall) → IsLastOf object (deduplicated calls) c.client (Some last) → c.number ≡ last.number
       → (place : Option ℕ) → position (is_same c) (deduplicated calls) ≡ place → (b : Bool) → bytes_eq last.operation c.op ≡ b
-      → repeated replies place ≡ (if b then Kept last.reply else refusal Conflict)
+      → repeated_call_answer replies place ≡ (if b then Kept last.reply else refusal Conflict)
   kept_known calls replies c same last is number None at true bytes =
       let kept = deduplicated calls in
       let mine : Call A = as_call c.client last in
@@ -284,7 +284,7 @@ module _ {O A : Type 0} (object : Sequential O) where
   kept_same : (calls : List (Call A)) (replies : ℕ → List ℕ) (c : Call A) → ((q : ℕ) → q < length (deduplicated calls)
       → replies q ≡ call_reply object (deduplicated calls) q)
       → (o : Option LastCall) → IsLastOf object (deduplicated calls) c.client o → c.number ≡ count_of c.client (deduplicated calls)
-      → (place : Option ℕ) → position (is_same c) (deduplicated calls) ≡ place → repeated replies place ≡ kept_answer o c.op
+      → (place : Option ℕ) → position (is_same c) (deduplicated calls) ≡ place → repeated_call_answer replies place ≡ last_call_answer o c.op
   kept_same calls replies c same None is number None at = refl
   kept_same calls replies c same None is number (Some q) at =
       let counted = deduplicated-numbered calls q c (position-is_same (deduplicated calls) c q at) in
@@ -296,7 +296,7 @@ module _ {O A : Type 0} (object : Sequential O) where
   by_list : List (Call A) → Table O → Call A → ℕ → Bool → Answer
   by_list kept table c last room =
       if c.number == last + 1 then (if room then Done (object.reply table.content c.op) else refusal SessionsFull)
-      else if c.number == last then kept_answer (session_of table c.client) c.op
+      else if c.number == last then last_call_answer (session_of table c.client) c.op
       else if nat_lt c.number last then refusal Stale
       else refusal NumberGap
 
@@ -317,7 +317,7 @@ module _ {O A : Type 0} (object : Sequential O) where
       let listed : answer_after replies kept c ≡ by_list kept table c last (may_call kept c.client) =
       same_cases (c.number == last + 1) (may_call kept c.client) (c.number == last) (nat_lt c.number last)
       (replies (length kept)) (object.reply table.content c.op)
-      (repeated replies (position (is_same c) kept)) (kept_answer (session_of table c.client) c.op) own
+      (repeated_call_answer replies (position (is_same c) kept)) (last_call_answer (session_of table c.client) c.op) own
       (λ is_last. kept_same calls replies c before (session_of table c.client) (holds.known c.client)
       (eqb-true c.number last is_last) (position (is_same c) kept) refl) in
       let tested : by_list kept table c last (may_call kept c.client) ≡ table_answer object table c =
@@ -347,7 +347,7 @@ kept_not-done : (b : Bool) (reply : List ℕ) → is_done (if b then Kept reply 
 kept_not-done true reply = refl
 kept_not-done false reply = refl
 
-last_not-done : (last : Option LastCall) (operation : List ℕ) → is_done (kept_answer last operation) ≡ false
+last_not-done : (last : Option LastCall) (operation : List ℕ) → is_done (last_call_answer last operation) ≡ false
 last_not-done None operation = refl
 last_not-done (Some last) operation = kept_not-done (bytes_eq last.operation operation) last.reply
 
@@ -365,12 +365,12 @@ done_where false room reply other e = e
 
 module _ {O A : Type 0} (object : Sequential O) where
   -- A table answers `Done` exactly if the call is taken.
-  pub done-taken : (table : Table O) (c : Call A) → is_done (table_answer object table c) ≡ is_taken table c
+  pub done-taken : (table : Table O) (c : Call A) → is_done (table_answer object table c) ≡ takes_effect_in_table table c
   done-taken table c =
       let last = session_of table c.client in
-      let apart : is_done (other_answer last c) ≡ false = other_not-done (c.number == last_number last)
-      (nat_lt c.number (last_number last)) (kept_answer last c.op) (last_not-done last c.op) in
-      done_where (c.number == last_number last + 1) (has_room table c.client) (object.reply table.content c.op) (other_answer last c) apart
+      let apart : is_done (answer_unless_next last c) ≡ false = other_not-done (c.number == last_number last)
+      (nat_lt c.number (last_number last)) (last_call_answer last c.op) (last_not-done last c.op) in
+      done_where (c.number == last_number last + 1) (has_room_for_client table c.client) (object.reply table.content c.op) (answer_unless_next last c) apart
 
   -- So after a list of calls it answers `Done` exactly if the call takes effect.
   pub table_effect : (calls : List (Call A)) (c : Call A) → is_done (table_answer object (table_after object calls) c) ≡ takes_effect (deduplicated calls) c

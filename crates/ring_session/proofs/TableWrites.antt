@@ -13,7 +13,7 @@ use Rattle.ring_payload.specs.declared.call.Call.{Call}
 use Rattle.std.specs.List.{AllZip}
 use Rattle.std.proofs.lemmas.List.Elements.{same_from_all_zip}
 use Rattle.ring_session.specs.Deduplicated.{max_clients}
-use Rattle.ring_session.specs.Table.{LastCall, IsTable, table_of, last_number, last_call, is_taken, table_next}
+use Rattle.ring_session.specs.Table.{LastCall, IsTable, table_of, last_number, last_call, takes_effect_in_table, table_next}
 use Rattle.ring_session.proofs.Entries.{set_value-known, remove_entry-new, length-new}
 
 -- ---- the sessions after a write
@@ -78,12 +78,12 @@ pub next-known : {O A : Type 0} (object : Sequential O) (es after : List (ℕ ×
     → table_of after content' ≡ table_next object (table_of es content) c
 next-known {O} {A} object es after content content' c last sorted found number written does =
     let new = last_call c (object.reply content c.op) in
-    let taken : is_taken (table_of es content) c ≡ true =
+    let taken : takes_effect_in_table (table_of es content) c ≡ true =
     ap (λ o. (c.number == last_number o + 1) && (is_some o || nat_lt (length es) max_clients)) found
     ∙ ap (λ b. b && (true || nat_lt (length es) max_clients)) (eq-eqb c.number (last.number + 1) number) in
     ap (λ w. table_of w content') (written ∙ set_value-known es c.client new last sorted found)
     ∙ ap (λ (w : O). table_of (insert_entry nat_cmp es c.client new) w) does
-    ∙ sym (cond-true (is_taken (table_of es content) c) (table_of (insert_entry nat_cmp es c.client new)
+    ∙ sym (cond-true (takes_effect_in_table (table_of es content) c) (table_of (insert_entry nat_cmp es c.client new)
     (object.next content c.op)) (table_of es content) taken)
 
 -- Another call of a known client.
@@ -91,10 +91,10 @@ pub next-other : {O A : Type 0} (object : Sequential O) (es after : List (ℕ ×
     → lookup (is_at (nat_cmp c.client)) es ≡ Some last → false ≡ (c.number == last.number + 1) → after ≡ es
     → table_of after content ≡ table_next object (table_of es content) c
 next-other {O} {A} object es after content c last found other same =
-    let left : is_taken (table_of es content) c ≡ false =
+    let left : takes_effect_in_table (table_of es content) c ≡ false =
     ap (λ o. (c.number == last_number o + 1) && (is_some o || nat_lt (length es) max_clients)) found
     ∙ ap (λ b. b && (true || nat_lt (length es) max_clients)) (sym other) in
     ap (λ w. table_of w content) same
-    ∙ sym (cond-false (is_taken (table_of es content) c)
+    ∙ sym (cond-false (takes_effect_in_table (table_of es content) c)
     (table_of (insert_entry nat_cmp es c.client (last_call c (object.reply content c.op)))
     (object.next content c.op)) (table_of es content) left)

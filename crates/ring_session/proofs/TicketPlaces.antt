@@ -6,7 +6,7 @@ use Rattle.std.specs.Option.{option_or}
 use Rattle.std.proofs.lemmas.Bool.{le-leb}
 use Rattle.ring_payload.specs.declared.call.Call.{Call}
 use Rattle.ring_session.specs.SessionAnswer.{is_same}
-use Rattle.ring_session.specs.Tickets.{TicketCall, first_place, place_of}
+use Rattle.ring_session.specs.Tickets.{TicketCall, first_place, answering_place}
 
 -- ---- places
 
@@ -44,9 +44,9 @@ abbrev pub place_now : {A : Type 0} → List (Call A) → TicketCall A → Call 
 place_now committed t c = if is_same t.call c then Some (length committed) else None
 
 pub place-push : {A : Type 0} (committed : List (Call A)) (t : TicketCall A) (c : Call A) → t.since ≤ length committed
-    → place_of (committed ++ c ∷ []) t ≡ option_or (place_of committed t) (place_now committed t c)
+    → answering_place (committed ++ c ∷ []) t ≡ option_or (answering_place committed t) (place_now committed t c)
 place-push committed t c early =
     let all : 0 + length committed ≡ length committed = omega arith in
     first_place-push t.call t.since 0 committed c
-    ∙ ap (λ k. option_or (place_of committed t) (last_place t.call t.since k c)) all
-    ∙ ap (λ b. option_or (place_of committed t) (if b && is_same t.call c then Some (length committed) else None)) (le-leb t.since (length committed) early)
+    ∙ ap (λ k. option_or (answering_place committed t) (last_place t.call t.since k c)) all
+    ∙ ap (λ b. option_or (answering_place committed t) (if b && is_same t.call c then Some (length committed) else None)) (le-leb t.since (length committed) early)

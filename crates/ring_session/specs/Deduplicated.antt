@@ -5,12 +5,12 @@ use Rattle.std.specs.Prelude.{◌≡◌, ℕ, ◌+◌, ◌==◌, ◌&&◌, ◌||
 use Rattle.ring_payload.specs.declared.call.Call.{Call}
 
 -- Whether the call is of the client.
-abbrev pub is_of : {A : Type 0} → ℕ → Call A → Bool
-is_of client c = c.client == client
+abbrev pub is_of_client : {A : Type 0} → ℕ → Call A → Bool
+is_of_client client c = c.client == client
 
 -- The number of calls of the client among these.
 abbrev pub count_of : {A : Type 0} → ℕ → List (Call A) → ℕ
-count_of client calls = count_by (is_of client) calls
+count_of client calls = count_by (is_of_client client) calls
 
 -- The number of clients of these calls.
 abbrev pub client_count : {A : Type 0} → List (Call A) → ℕ
@@ -40,12 +40,12 @@ abbrev pub deduplicated : {A : Type 0} → List (Call A) → List (Call A)
 deduplicated calls = deduplicated_after [] calls
 
 -- The call is at this index of the list.
-abbrev pub StandsAt : {A : Type 0} → List (Call A) → ℕ → Call A → Type 0
-StandsAt calls p c = slice_get calls p ≡ Some c
+abbrev pub IsCallAt : {A : Type 0} → List (Call A) → ℕ → Call A → Type 0
+IsCallAt calls p c = slice_get calls p ≡ Some c
 
 -- The numbers of each client's calls are 1, 2, .. in order.
 abbrev pub IsNumbered : {A : Type 0} → List (Call A) → Type 0
-IsNumbered {A} calls = (p : ℕ) (c : Call A) → StandsAt calls p c → c.number ≡ count_of c.client (take p calls) + 1
+IsNumbered {A} calls = (p : ℕ) (c : Call A) → IsCallAt calls p c → c.number ≡ count_of c.client (take p calls) + 1
 
 -- The operations of the calls, in order.
 abbrev pub operations : {A : Type 0} → List (Call A) → List (List ℕ)

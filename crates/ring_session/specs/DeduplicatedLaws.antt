@@ -12,7 +12,7 @@ use Rattle.ring_base.specs.Prefixes.{IsListPrefix}
 use Rattle.ring_base.proofs.ListFronts.{take-front}
 use Rattle.ring_base.proofs.ListPlaces.{get-push}
 use Rattle.ring_payload.specs.declared.call.Call.{Call}
-use Rattle.ring_session.specs.Deduplicated.{is_of, count_of, may_call, takes_effect, deduplicated_after, deduplicated, StandsAt, IsNumbered}
+use Rattle.ring_session.specs.Deduplicated.{is_of_client, count_of, may_call, takes_effect, deduplicated_after, deduplicated, IsCallAt, IsNumbered}
 
 -- ---- places of a list
 
@@ -20,8 +20,8 @@ use Rattle.ring_session.specs.Deduplicated.{is_of, count_of, may_call, takes_eff
 
 -- The count with one more call.
 pub count_of-push : {A : Type 0} (client : ℕ) (calls : List (Call A)) (c : Call A) → count_of client (calls ++ c ∷ [])
-    ≡ count_of client calls + (if is_of client c then 1 else 0)
-count_of-push client calls c = sum_by_push (λ x. if is_of client x then 1 else 0) calls c
+    ≡ count_of client calls + (if is_of_client client c then 1 else 0)
+count_of-push client calls c = sum_by_push (λ x. if is_of_client client x then 1 else 0) calls c
 
 -- A call of the client adds one to its count.
 pub count_of-push_own : {A : Type 0} (calls : List (Call A)) (c : Call A) → count_of c.client (calls ++ c ∷ []) ≡ count_of c.client calls + 1
@@ -37,10 +37,10 @@ count_of-push_other client calls c ne =
     omega (arith, none)
 
 -- A client's count is greater after each call of the client.
-pub count_of-take : {A : Type 0} (calls : List (Call A)) (p q : ℕ) (c : Call A) → StandsAt calls p c → p < q
+pub count_of-take : {A : Type 0} (calls : List (Call A)) (p q : ℕ) (c : Call A) → IsCallAt calls p c → p < q
     → count_of c.client (take p calls) + 1 ≤ count_of c.client (take q calls)
 count_of-take {A} calls p q c at lt =
-    let f : Call A → ℕ = λ x. if is_of c.client x then 1 else 0 in
+    let f : Call A → ℕ = λ x. if is_of_client c.client x then 1 else 0 in
     let more = sum_by_more f calls p c (slice_get_within calls p c at) in
     let here : get_or calls p c ≡ c = get_or_from_slice_get calls p c c at in
     let one : f c ≡ 1 = cond-true (c.client == c.client) 1 0 (eq-eqb c.client c.client refl) in
@@ -114,29 +114,29 @@ pub deduplicated-numbered : {A : Type 0} (calls : List (Call A)) → IsNumbered 
 deduplicated-numbered calls = numbered_after [] calls (λ p c at. absurd (cc at))
 
 stands_step : {A : Type 0} (kept cs : List (Call A)) (d : Call A) (b : Bool) (p : ℕ) (c : Call A)
-    → ((k : ℕ) → StandsAt (deduplicated_after (kept ++ d ∷ []) cs) k c → (q : ℕ) × StandsAt cs q c)
-    → ((k : ℕ) → StandsAt (deduplicated_after kept cs) k c → (q : ℕ) × StandsAt cs q c)
-    → StandsAt (if b then d ∷ deduplicated_after (kept ++ d ∷ []) cs else deduplicated_after kept cs) p c → (q : ℕ) × StandsAt (d ∷ cs) q c
+    → ((k : ℕ) → IsCallAt (deduplicated_after (kept ++ d ∷ []) cs) k c → (q : ℕ) × IsCallAt cs q c)
+    → ((k : ℕ) → IsCallAt (deduplicated_after kept cs) k c → (q : ℕ) × IsCallAt cs q c)
+    → IsCallAt (if b then d ∷ deduplicated_after (kept ++ d ∷ []) cs else deduplicated_after kept cs) p c → (q : ℕ) × IsCallAt (d ∷ cs) q c
 stands_step kept cs d true zero c taken left at = (zero, at)
 stands_step kept cs d true (suc p) c taken left at = let r = taken p at in (suc r.0, r.1)
 stands_step kept cs d false p c taken left at = let r = left p at in (suc r.0, r.1)
 
 -- A call that takes effect after the kept ones is in the list.
 pub deduplicated_after-stands : {A : Type 0} (kept calls : List (Call A)) (p : ℕ) (c : Call A)
-    → StandsAt (deduplicated_after kept calls) p c → (q : ℕ) × StandsAt calls q c
+    → IsCallAt (deduplicated_after kept calls) p c → (q : ℕ) × IsCallAt calls q c
 deduplicated_after-stands kept [] p c at = absurd (cc at)
 deduplicated_after-stands kept (d ∷ cs) p c at = stands_step kept cs d (takes_effect kept d) p c
     (λ k. deduplicated_after-stands (kept ++ d ∷ []) cs k c) (λ k. deduplicated_after-stands kept cs k c) at
 
 -- A call that takes effect is in the list.
-pub deduplicated-stands : {A : Type 0} (calls : List (Call A)) (p : ℕ) (c : Call A) → StandsAt (deduplicated calls) p c → (q : ℕ) × StandsAt calls q c
+pub deduplicated-stands : {A : Type 0} (calls : List (Call A)) (p : ℕ) (c : Call A) → IsCallAt (deduplicated calls) p c → (q : ℕ) × IsCallAt calls q c
 deduplicated-stands calls p c at = deduplicated_after-stands [] calls p c at
 
 -- ---- each number once
 
 -- If each client's calls are numbered, no call precedes another one of the same client and number.
-not_before : {A : Type 0} (calls : List (Call A)) → IsNumbered calls → (p q : ℕ) (c d : Call A) → StandsAt calls p c
-    → StandsAt calls q d → c.client ≡ d.client → c.number ≡ d.number → p < q → ⊥
+not_before : {A : Type 0} (calls : List (Call A)) → IsNumbered calls → (p q : ℕ) (c d : Call A) → IsCallAt calls p c
+    → IsCallAt calls q d → c.client ≡ d.client → c.number ≡ d.number → p < q → ⊥
 not_before calls numbered p q c d at at' client number lt =
     let more = count_of-take calls p q c at lt in
     let first = numbered p c at in
@@ -146,7 +146,7 @@ not_before calls numbered p q c d at at' client number lt =
 
 -- If each client's calls are numbered, a client's number occurs only once.
 pub numbered_once : {A : Type 0} (calls : List (Call A)) → IsNumbered calls → (p q : ℕ) (c d : Call A)
-    → StandsAt calls p c → StandsAt calls q d → c.client ≡ d.client → c.number ≡ d.number → p ≡ q
+    → IsCallAt calls p c → IsCallAt calls q d → c.client ≡ d.client → c.number ≡ d.number → p ≡ q
 numbered_once calls numbered p q c d at at' client number =
     let le : p ≤ q = omega (arith, not_before calls numbered q p d c at' at (sym client) (sym number)) in
     let ge : q ≤ p = omega (arith, not_before calls numbered p q c d at at' client number) in

@@ -8,7 +8,7 @@ pub mod Effects
 pub mod Tickets
 pub mod TicketEffects
 pub mod RecentAnswers
-pub mod Pendings
+pub mod TicketsState
 pub mod Buckets
 pub mod Snapshots
 pub mod SnapshotsLaws

@@ -5,26 +5,26 @@ use Rattle.ring_object.specs.Operations.{Sequential}
 use Rattle.ring_payload.specs.declared.call.Call.{Call}
 use Rattle.ring_session.specs.declared.answer.Answer.{Answer}
 use Rattle.ring_session.specs.declared.answer.Answer.TheVariants.{Done}
-use Rattle.ring_session.specs.Deduplicated.{deduplicated, StandsAt}
-use Rattle.ring_session.specs.SessionAnswer.{reply_in, call_reply, session_answer, IsReplyIn}
+use Rattle.ring_session.specs.Deduplicated.{deduplicated, IsCallAt}
+use Rattle.ring_session.specs.SessionAnswer.{decode_reply, call_reply, session_answer, IsReplyIn}
 
 module _ {O : Type 0} (object : Sequential O) where
   -- The call at this place of the list has this reply.
   pub record IsReplied {A : Type 0} (calls : List (Call A)) (p : ℕ) (c : Call A) (r : List ℕ) : Type 0 where
     pub answer : Answer
-    pub stands : StandsAt calls p c
+    pub stands : IsCallAt calls p c
     pub told : session_answer object calls p ≡ Some answer
-    pub brings : reply_in answer ≡ Some r
+    pub brings : decode_reply answer ≡ Some r
 
   -- Each call that takes effect has the answer `Done` at its place in the list, with the reply of the sequential
   -- object.
   abbrev pub EachIsDone : {A : Type 0} → List (Call A) → Type 0
-  EachIsDone {A} calls = (q : ℕ) (c : Call A) → StandsAt (deduplicated calls) q c
-      → (p : ℕ) × StandsAt calls p c × (session_answer object calls p ≡ Some (Done (call_reply object (deduplicated calls) q)))
+  EachIsDone {A} calls = (q : ℕ) (c : Call A) → IsCallAt (deduplicated calls) q c
+      → (p : ℕ) × IsCallAt calls p c × (session_answer object calls p ≡ Some (Done (call_reply object (deduplicated calls) q)))
 
   -- A client's number has the answer `Done` at no more than one place.
   abbrev pub IsDoneOnce : {A : Type 0} → List (Call A) → Type 0
-  IsDoneOnce {A} calls = (p q : ℕ) (c d : Call A) (r s : List ℕ) → StandsAt calls p c → StandsAt calls q d
+  IsDoneOnce {A} calls = (p q : ℕ) (c d : Call A) (r s : List ℕ) → IsCallAt calls p c → IsCallAt calls q d
       → session_answer object calls p ≡ Some (Done r) → session_answer object calls q ≡ Some (Done s)
       → c.client ≡ d.client → c.number ≡ d.number → p ≡ q
 
@@ -40,5 +40,5 @@ module _ {O : Type 0} (object : Sequential O) where
 
   -- No later call changes an answer.
   abbrev pub AnswersStay : {A : Type 0} → List (Call A) → Type 0
-  AnswersStay {A} calls = (more : List (Call A)) (p : ℕ) (c : Call A) → StandsAt calls p c → session_answer object
+  AnswersStay {A} calls = (more : List (Call A)) (p : ℕ) (c : Call A) → IsCallAt calls p c → session_answer object
       (calls ++ more) p ≡ session_answer object calls p

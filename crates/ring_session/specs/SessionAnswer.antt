@@ -11,7 +11,7 @@ use Rattle.ring_payload.specs.declared.call.Call.{Call}
 pub use Rattle.ring_payload.specs.SameCalls.{is_same}
 use Rattle.ring_session.specs.declared.answer.Answer.{Answer}
 use Rattle.ring_session.specs.declared.answer.Answer.TheVariants.{Done, Kept, Refused}
-use Rattle.ring_session.specs.Deduplicated.{count_of, may_call, deduplicated, StandsAt, operations}
+use Rattle.ring_session.specs.Deduplicated.{count_of, may_call, deduplicated, IsCallAt, operations}
 
 -- The answer that refuses with this fault.
 abbrev pub refusal : Fault → Answer
@@ -19,24 +19,24 @@ refusal fault = Refused (fault_number fault)
 
 -- Sessions 3: the answer to a call with its client's last number: the reply at its place if it is the call with that
 -- number, otherwise `Conflict`.
-abbrev pub repeated : (ℕ → List ℕ) → Option ℕ → Answer
-repeated replies (Some place) = Kept (replies place)
-repeated replies None = refusal Conflict
+abbrev pub repeated_call_answer : (ℕ → List ℕ) → Option ℕ → Answer
+repeated_call_answer replies (Some place) = Kept (replies place)
+repeated_call_answer replies None = refusal Conflict
 
 -- Sessions 3: the answer to a call after the kept calls took effect, from the replies at their places and at the next place.
 abbrev pub answer_after : {A : Type 0} → (ℕ → List ℕ) → List (Call A) → Call A → Answer
 answer_after replies kept c =
     let last = count_of c.client kept in
     if c.number == last + 1 then (if may_call kept c.client then Done (replies (length kept)) else refusal SessionsFull)
-    else if c.number == last then repeated replies (position (is_same c) kept)
+    else if c.number == last then repeated_call_answer replies (position (is_same c) kept)
     else if nat_lt c.number last then refusal Stale
     else refusal NumberGap
 
 -- Sessions 4: the reply in an answer, if the call took effect, now or before.
-abbrev pub reply_in : Answer → Option (List ℕ)
-reply_in (Done reply) = Some reply
-reply_in (Kept reply) = Some reply
-reply_in (Refused number) = None
+abbrev pub decode_reply : Answer → Option (List ℕ)
+decode_reply (Done reply) = Some reply
+decode_reply (Kept reply) = Some reply
+decode_reply (Refused number) = None
 
 -- Whether the call takes effect now.
 abbrev pub is_done : Answer → Bool
@@ -55,4 +55,4 @@ module _ {O : Type 0} (object : Sequential O) where
 
   -- The call is in this order of calls, and the reply is the sequential object's reply there.
   abbrev pub IsReplyIn : {A : Type 0} → List (Call A) → Call A → List ℕ → Type 0
-  IsReplyIn order c r = (q : ℕ) × StandsAt order q c × (call_reply order q ≡ r)
+  IsReplyIn order c r = (q : ℕ) × IsCallAt order q c × (call_reply order q ≡ r)

@@ -20,11 +20,11 @@ use Rattle.ring_payload.specs.declared.call.Call.{Call}
 pub use Rattle.ring_payload.specs.SameCalls.{is_same-true}
 use Rattle.ring_session.specs.declared.answer.Answer.{Answer}
 use Rattle.ring_session.specs.declared.answer.Answer.TheVariants.{Done, Kept}
-use Rattle.ring_session.specs.Deduplicated.{count_of, may_call, takes_effect, deduplicated, StandsAt, IsNumbered, operations}
+use Rattle.ring_session.specs.Deduplicated.{count_of, may_call, takes_effect, deduplicated, IsCallAt, IsNumbered, operations}
 use Rattle.ring_session.specs.DeduplicatedLaws.{count_of-take, deduplicated-push}
 use Rattle.ring_session.specs.DeduplicatedLaws.{deduplicated-front, deduplicated-numbered, takes_effect-number}
 use Rattle.ring_session.specs.DeduplicatedLaws.{numbered_once}
-use Rattle.ring_session.specs.SessionAnswer.{refusal, is_same, repeated, answer_after, reply_in, call_reply, session_answer, IsReplyIn}
+use Rattle.ring_session.specs.SessionAnswer.{refusal, is_same, repeated_call_answer, answer_after, decode_reply, call_reply, session_answer, IsReplyIn}
 
 -- ---- the sequential object's replies
 
@@ -67,7 +67,7 @@ before_front : {A : Type 0} (calls : List (Call A)) (p : ℕ) → IsListPrefix (
 before_front calls p = deduplicated-front (take p calls) calls (taken-front p calls)
 
 -- A call that takes effect at its place comes directly after the calls that took effect before.
-pub takes_effect-front : {A : Type 0} (calls : List (Call A)) (p : ℕ) (c : Call A) → StandsAt calls p c
+pub takes_effect-front : {A : Type 0} (calls : List (Call A)) (p : ℕ) (c : Call A) → IsCallAt calls p c
     → takes_effect (deduplicated (take p calls)) c ≡ true → IsListPrefix (deduplicated (take p calls) ++ c ∷ [])
     (deduplicated (take (suc p) calls))
 takes_effect-front {A} calls p c at taken =
@@ -76,7 +76,7 @@ takes_effect-front {A} calls p c at taken =
     ap deduplicated (take-found calls p c at) ∙ deduplicated-push (take p calls) c ∙ ap (λ w. kept ++ w) (cond-true (takes_effect kept c) (c ∷ []) [] taken) in
     ([], append-nil (kept ++ c ∷ []) ∙ sym grown)
 
-effect_front : {A : Type 0} (calls : List (Call A)) (p : ℕ) (c : Call A) → StandsAt calls p c
+effect_front : {A : Type 0} (calls : List (Call A)) (p : ℕ) (c : Call A) → IsCallAt calls p c
     → takes_effect (deduplicated (take p calls)) c ≡ true → IsListPrefix (deduplicated (take p calls) ++ c ∷ [])
     (deduplicated calls)
 effect_front calls p c at taken = prefix_trans (deduplicated (take p calls) ++ c ∷ [])
@@ -86,7 +86,7 @@ effect_front calls p c at taken = prefix_trans (deduplicated (take p calls) ++ c
 -- ---- one call
 
 -- The place of one call.
-pub position-is_same : {A : Type 0} (kept : List (Call A)) (c : Call A) (q : ℕ) → position (is_same c) kept ≡ Some q → StandsAt kept q c
+pub position-is_same : {A : Type 0} (kept : List (Call A)) (c : Call A) (q : ℕ) → position (is_same c) kept ≡ Some q → IsCallAt kept q c
 position-is_same kept c q found =
     let there = position-Some (is_same c) kept q c found in
     slice_get-get_or kept q c there.0 ∙ ap Some (is_same-true c (get_or kept q c) there.1)
@@ -94,11 +94,11 @@ position-is_same kept c q found =
 -- ---- answers
 
 -- The answer at a place with a call.
-pub session_answer-at : {O A : Type 0} (object : Sequential O) (calls : List (Call A)) (p : ℕ) (c : Call A) → StandsAt calls p c
+pub session_answer-at : {O A : Type 0} (object : Sequential O) (calls : List (Call A)) (p : ℕ) (c : Call A) → IsCallAt calls p c
     → session_answer object calls p ≡ Some (answer_after (call_reply object (deduplicated calls)) (deduplicated (take p calls)) c)
 session_answer-at object calls p c at = ap (option_map (answer_after (call_reply object (deduplicated calls)) (deduplicated (take p calls)))) at
 
-same_place : (f g : ℕ → List ℕ) (o : Option ℕ) → ((q : ℕ) → o ≡ Some q → f q ≡ g q) → repeated f o ≡ repeated g o
+same_place : (f g : ℕ → List ℕ) (o : Option ℕ) → ((q : ℕ) → o ≡ Some q → f q ≡ g q) → repeated_call_answer f o ≡ repeated_call_answer g o
 same_place f g None same = refl
 same_place f g (Some q) same = ap Kept (same q refl)
 
@@ -117,11 +117,11 @@ pub answer_after-same : {A : Type 0} (f g : ℕ → List ℕ) (kept : List (Call
     → answer_after f kept c ≡ answer_after g kept c
 answer_after-same f g kept c own before =
     same_cases (c.number == count_of c.client kept + 1) (may_call kept c.client) (c.number == count_of c.client kept) (nat_lt c.number (count_of c.client kept))
-    (f (length kept)) (g (length kept)) (repeated f (position (is_same c) kept)) (repeated g (position (is_same c) kept)) own
+    (f (length kept)) (g (length kept)) (repeated_call_answer f (position (is_same c) kept)) (repeated_call_answer g (position (is_same c) kept)) own
     (λ last. same_place f g (position (is_same c) kept) (λ q found. before q (position-Some (is_same c) kept q c found).0))
 
 -- An answer stays the same if the list grows.
-pub session_answer-front : {O A : Type 0} (object : Sequential O) (xs ys : List (Call A)) (p : ℕ) (c : Call A) → StandsAt xs p c → IsListPrefix xs ys
+pub session_answer-front : {O A : Type 0} (object : Sequential O) (xs ys : List (Call A)) (p : ℕ) (c : Call A) → IsCallAt xs p c → IsListPrefix xs ys
     → session_answer object ys p ≡ session_answer object xs p
 session_answer-front {O} {A} object xs ys p c at front =
     let kept = deduplicated (take p xs) in
@@ -139,7 +139,7 @@ session_answer-front {O} {A} object xs ys p c at front =
     ∙ sym (session_answer-at object xs p c at)
 
 replied_cases : (next room last old : Bool) (f : ℕ → List ℕ) (n : ℕ) (o : Option ℕ) (r : List ℕ)
-    → reply_in (if next then (if room then Done (f n) else refusal SessionsFull) else if last then repeated f
+    → decode_reply (if next then (if room then Done (f n) else refusal SessionsFull) else if last then repeated_call_answer f
     o else if old then refusal Stale else refusal NumberGap) ≡ Some r
     → ((next && room ≡ true) × (f n ≡ r)) ⊎ ((q : ℕ) × (o ≡ Some q) × (f q ≡ r))
 replied_cases true true last old f n o r e = inl (refl, cc e)
@@ -150,14 +150,14 @@ replied_cases false room false true f n o r e = absurd (cc e)
 replied_cases false room false false f n o r e = absurd (cc e)
 
 -- A reply is the sequential object's reply at a place where the call takes effect.
-pub answered : {O A : Type 0} (object : Sequential O) (calls : List (Call A)) (p : ℕ) (c : Call A) (a : Answer) (r : List ℕ) → StandsAt calls p c
-    → session_answer object calls p ≡ Some a → reply_in a ≡ Some r → IsReplyIn object (deduplicated calls) c r
+pub answered : {O A : Type 0} (object : Sequential O) (calls : List (Call A)) (p : ℕ) (c : Call A) (a : Answer) (r : List ℕ) → IsCallAt calls p c
+    → session_answer object calls p ≡ Some a → decode_reply a ≡ Some r → IsReplyIn object (deduplicated calls) c r
 answered {O} {A} object calls p c a r at answer is =
     let kept = deduplicated (take p calls) in
     let replies : ℕ → List ℕ = call_reply object (deduplicated calls) in
     let told : Some (answer_after replies kept c) ≡ Some a = sym (session_answer-at object calls p c at) ∙ answer in
     let same : answer_after replies kept c ≡ a = cc told in
-    let brings : reply_in (answer_after replies kept c) ≡ Some r = ap reply_in same ∙ is in
+    let brings : decode_reply (answer_after replies kept c) ≡ Some r = ap decode_reply same ∙ is in
     elim (replied_cases (c.number == count_of c.client kept + 1) (may_call kept c.client)
     (c.number == count_of c.client kept) (nat_lt c.number (count_of c.client kept)) replies (length kept)
     (position (is_same c) kept) r brings) [
@@ -166,8 +166,8 @@ answered {O} {A} object calls p c a r at answer is =
     ]
 
 -- A call with a reply has a number of at least 1.
-pub answered-number : {O A : Type 0} (object : Sequential O) (calls : List (Call A)) (p : ℕ) (c : Call A) (a : Answer) (r : List ℕ) → StandsAt calls p c
-    → session_answer object calls p ≡ Some a → reply_in a ≡ Some r → 1 ≤ c.number
+pub answered-number : {O A : Type 0} (object : Sequential O) (calls : List (Call A)) (p : ℕ) (c : Call A) (a : Answer) (r : List ℕ) → IsCallAt calls p c
+    → session_answer object calls p ≡ Some a → decode_reply a ≡ Some r → 1 ≤ c.number
 answered-number object calls p c a r at answer is =
     let there = answered object calls p c a r at answer is in
     omega (arith, deduplicated-numbered calls there.0 c there.1)
@@ -175,7 +175,7 @@ answered-number object calls p c a r at answer is =
 -- ---- one effect
 
 done_cases : (next room last old : Bool) (f : ℕ → List ℕ) (n : ℕ) (o : Option ℕ) (r : List ℕ)
-    → (if next then (if room then Done (f n) else refusal SessionsFull) else if last then repeated f
+    → (if next then (if room then Done (f n) else refusal SessionsFull) else if last then repeated_call_answer f
     o else if old then refusal Stale else refusal NumberGap) ≡ Done r → next && room ≡ true
 done_cases true true last old f n o r e = refl
 done_cases true false last old f n o r e = absurd (cc e)
@@ -185,7 +185,7 @@ done_cases false room false true f n o r e = absurd (cc e)
 done_cases false room false false f n o r e = absurd (cc e)
 
 -- A call with the answer `Done` takes effect at its place.
-pub done_takes_effect : {O A : Type 0} (object : Sequential O) (calls : List (Call A)) (p : ℕ) (c : Call A) (r : List ℕ) → StandsAt calls p c
+pub done_takes_effect : {O A : Type 0} (object : Sequential O) (calls : List (Call A)) (p : ℕ) (c : Call A) (r : List ℕ) → IsCallAt calls p c
     → session_answer object calls p ≡ Some (Done r) → takes_effect (deduplicated (take p calls)) c ≡ true
 done_takes_effect {O} {A} object calls p c r at answer =
     let kept = deduplicated (take p calls) in
@@ -195,8 +195,8 @@ done_takes_effect {O} {A} object calls p c r at answer =
     (nat_lt c.number (count_of c.client kept)) replies (length kept) (position (is_same c) kept) r (cc told)
 
 -- A client's number takes effect at no later place.
-no_later_effect : {A : Type 0} (calls : List (Call A)) (p q : ℕ) (c d : Call A) → StandsAt calls p c
-    → StandsAt calls q d → takes_effect (deduplicated (take p calls)) c ≡ true
+no_later_effect : {A : Type 0} (calls : List (Call A)) (p q : ℕ) (c d : Call A) → IsCallAt calls p c
+    → IsCallAt calls q d → takes_effect (deduplicated (take p calls)) c ≡ true
     → takes_effect (deduplicated (take q calls)) d ≡ true
     → c.client ≡ d.client → c.number ≡ d.number → p < q → ⊥
 no_later_effect {A} calls p q c d at at' taken taken' client number lt =
@@ -207,7 +207,7 @@ no_later_effect {A} calls p q c d at at' taken taken' client number lt =
       drop (suc p) (take q calls),
       ap (λ w. w ++ drop (suc p) (take q calls)) (sym shorter) ∙ take-append-drop (suc p) (take q calls),
     ) in
-    let stands : StandsAt kept (length before) c =
+    let stands : IsCallAt kept (length before) c =
     prefix_get (before ++ c ∷ []) kept (length before) c
     (prefix_trans (before ++ c ∷ []) (deduplicated (take (suc p) calls)) kept (takes_effect-front calls p c at taken)
     (deduplicated-front (take (suc p) calls) (take q calls) part))
@@ -220,7 +220,7 @@ no_later_effect {A} calls p q c d at at' taken taken' client number lt =
     omega (arith, first, second, more, all, same, number)
 
 -- A client's number has the answer `Done` at only one place.
-pub done_once : {O A : Type 0} (object : Sequential O) (calls : List (Call A)) (p q : ℕ) (c d : Call A) (r s : List ℕ) → StandsAt calls p c → StandsAt calls q d
+pub done_once : {O A : Type 0} (object : Sequential O) (calls : List (Call A)) (p q : ℕ) (c d : Call A) (r s : List ℕ) → IsCallAt calls p c → IsCallAt calls q d
     → session_answer object calls p ≡ Some (Done r) → session_answer object calls q ≡ Some (Done s) → c.client ≡ d.client → c.number ≡ d.number → p ≡ q
 done_once object calls p q c d r s at at' done done' client number =
     let taken = done_takes_effect object calls p c r at done in

@@ -7,8 +7,8 @@ use Rattle.std.specs.List.{flat_map}
 use Rattle.std.specs.Option.{option_map}
 use Rattle.std.proofs.lemmas.Bool.{leb-true, le-leb}
 use Rattle.byteorder.specs.Endian.{big_bytes}
-use Rattle.ring_payload.specs.Codecs.{IsFormat, number_at, made_at, such_at, then_at, ◌⊕◌, ◌>>=◌, Format, byte, u32_field, u64_field, text, ◌&◌, followed}
-use Rattle.ring_payload.specs.Codecs.{such, fields_format}
+use Rattle.ring_payload.specs.Codecs.{IsFormat, number_at, mapped_at, tested_at, sequence_at, ◌⊕◌, ◌>>=◌, Format, byte_field, u32_field, u64_field, text, ◌&◌, dependent_pair_format}
+use Rattle.ring_payload.specs.Codecs.{tested_format, fields_format}
 use Rattle.ring_object.specs.Bytes.{AreBytes}
 use Rattle.ring_payload.specs.Calls.{CallFits}
 use Rattle.ring_payload.specs.declared.call.Call.{Call}
@@ -32,11 +32,11 @@ ReplyFits r = length r ≤ max_reply
 
 -- The fields of a reply: its length and its bytes.
 abbrev reply_fields : Format (ℕ × List ℕ)
-reply_fields = followed (such (λ n. nat_le n max_reply) byte) text
+reply_fields = dependent_pair_format (tested_format (λ n. nat_le n max_reply) byte_field) text
 
 -- The reply at the start of the bytes, and the rest.
 unfoldable pub reply_at : List ℕ → Option (List ℕ × List ℕ)
-reply_at bytes = made_at (λ p. p.1) reply_fields.at bytes
+reply_at bytes = mapped_at (λ p. p.1) reply_fields.at bytes
 
 -- The encoding and the decoding of replies are inverse.
 pub reply_format : IsFormat reply_encoding ReplyFits reply_at
@@ -72,7 +72,7 @@ pub record ClientFits (s : ℕ × LastCall) : Type 0 where
 
 -- The fields of a client: its number, the call's number, the operation and the reply.
 abbrev client_fields : Format (ℕ × (ℕ × (List ℕ × List ℕ)))
-client_fields = u32_field & such (λ n. nat_le 1 n) u64_field & op & reply
+client_fields = u32_field & tested_format (λ n. nat_le 1 n) u64_field & op & reply
 
 -- The client made of its fields.
 abbrev client_of : ℕ × (ℕ × (List ℕ × List ℕ)) → ℕ × LastCall
@@ -80,7 +80,7 @@ client_of p = (p.0, record { number = p.1.0; operation = p.1.1.0; reply = p.1.1.
 
 -- The client at the start of the bytes, and the rest.
 unfoldable pub client_at : List ℕ → Option ((ℕ × LastCall) × List ℕ)
-client_at bytes = made_at client_of client_fields.at bytes
+client_at bytes = mapped_at client_of client_fields.at bytes
 
 -- The encoding and the decoding of clients are inverse.
 pub client_format : IsFormat client_encoding ClientFits client_at
@@ -104,19 +104,19 @@ client_format = fields_format client_fields client_of client_encoding ClientFits
 -- ---- the clients, ascending
 
 -- The clients ascend from `low` on, and each is within the limits.
-abbrev pub AreFrom : ℕ → List (ℕ × LastCall) → Type 0
-AreFrom low [] = Unit {0}
-AreFrom low (s ∷ ss) = ClientFits s × (low ≤ s.0) × AreFrom (suc s.0) ss
+abbrev pub AreClientsFrom : ℕ → List (ℕ × LastCall) → Type 0
+AreClientsFrom low [] = Unit {0}
+AreClientsFrom low (s ∷ ss) = ClientFits s × (low ≤ s.0) × AreClientsFrom (suc s.0) ss
 
 -- The client at the start of the bytes, if its number is at least `low`.
-abbrev pub next_at : ℕ → List ℕ → Option ((ℕ × LastCall) × List ℕ)
-next_at low bytes = such_at (λ s. nat_le low s.0) client_at bytes
+abbrev pub next_client_at : ℕ → List ℕ → Option ((ℕ × LastCall) × List ℕ)
+next_client_at low bytes = tested_at (λ s. nat_le low s.0) client_at bytes
 
 -- `count` clients at the start of the bytes, ascending from `low` on.
 unfoldable pub clients_at : ℕ → ℕ → List ℕ → Option (List (ℕ × LastCall) × List ℕ)
 clients_at zero low bytes = Some ([], bytes)
 clients_at (suc count) low bytes = do
-  first ← next_at low bytes
+  first ← next_client_at low bytes
   others ← clients_at count (suc first.0.0) first.1
   Some (first.0 ∷ others.0, others.1)
 
@@ -130,11 +130,11 @@ table_snapshot snapshot_of table =
 
 -- The number of clients, at most `max_clients`, and the clients.
 unfoldable pub sessions_at : List ℕ → Option ((ℕ × List (ℕ × LastCall)) × List ℕ)
-sessions_at bytes = then_at (such_at (λ n. nat_le n max_clients) (number_at 2)) (λ n. clients_at n 0) bytes
+sessions_at bytes = sequence_at (tested_at (λ n. nat_le n max_clients) (number_at 2)) (λ n. clients_at n 0) bytes
 
 -- A text preceded by its length in 8 bytes.
 unfoldable pub object_at : List ℕ → Option ((ℕ × List ℕ) × List ℕ)
-object_at bytes = (followed u64_field text).at bytes
+object_at bytes = (dependent_pair_format u64_field text).at bytes
 
 -- The clients and the object's snapshot that the bytes consist of.
 unfoldable pub parts_at : List ℕ → Option (List (ℕ × LastCall) × List ℕ)
@@ -154,7 +154,7 @@ restored_table restored bytes = parts_at bytes >>= table_with restored
 -- Sessions 12: the snapshot restores the table: its clients and its content are within the limits.
 pub record HasSnapshot {O : Type 0} (IsContent : O → Type 0) (table : Table O) : Type 0 where
   pub few : length table.sessions ≤ max_clients
-  pub clients : AreFrom 0 table.sessions
+  pub clients : AreClientsFrom 0 table.sessions
   pub content : IsContent table.content
 
 -- The call is within the limits, and its operation is bytes.
@@ -169,6 +169,6 @@ abbrev pub clients_in : ℕ → List ℕ → Option (List (ℕ × LastCall))
 clients_in count bytes = option_map (λ x. x.0) (clients_at count 0 bytes)
 
 -- The parts of the bytes, with at most 1,024 clients; none exactly if the bytes don't consist of such parts.
-abbrev pub AreParts : List ℕ → Option (ℕ × List ℕ × List ℕ) → Type 0
-AreParts bytes None = parts_at bytes ≡ None
-AreParts bytes (Some p) = (p.0 ≤ max_clients) × IsSome (clients_in p.0 p.1) × (parts_at bytes ≡ option_map (λ ss. (ss, p.2)) (clients_in p.0 p.1))
+abbrev pub AreSplitParts : List ℕ → Option (ℕ × List ℕ × List ℕ) → Type 0
+AreSplitParts bytes None = parts_at bytes ≡ None
+AreSplitParts bytes (Some p) = (p.0 ≤ max_clients) × IsSome (clients_in p.0 p.1) × (parts_at bytes ≡ option_map (λ ss. (ss, p.2)) (clients_in p.0 p.1))

@@ -12,13 +12,13 @@ use Rattle.std.proofs.lemmas.List.Concat.{flat_map-cons}
 use Rattle.std.proofs.lemmas.List.Elements.{All-from_get_or, All-drop}
 use Rattle.byteorder.specs.Endian.{big_bytes}
 use Rattle.ring_base.proofs.Cases.{map_some}
-use Rattle.ring_payload.specs.Codecs.{IsBytes, IsFormat, IsWord, IsSplitAfter, number_at, such_at, ◌>>=◌, bind_some, some_is, passed_some, IsSplitAfter-then}
-use Rattle.ring_payload.specs.Codecs.{such_format, then_format, number_format2, u64_field, text, followed}
-use Rattle.ring_object.specs.Bytes.{AreBytes, bytes_everywhere}
+use Rattle.ring_payload.specs.Codecs.{IsBytes, IsFormat, IsWord, IsSplitAfter, number_at, tested_at, ◌>>=◌, bind_some, some_injective, passed_some, IsSplitAfter-then}
+use Rattle.ring_payload.specs.Codecs.{such_format, then_format, number_format2, u64_field, text, dependent_pair_format}
+use Rattle.ring_object.specs.Bytes.{AreBytes, AreBytes-get_or}
 use Rattle.ring_object.specs.Snapshots.{HasExactSnapshots}
 use Rattle.ring_session.specs.Deduplicated.{max_clients}
 use Rattle.ring_session.specs.Table.{LastCall, Table, table_of}
-use Rattle.ring_session.specs.Snapshots.{ClientFits, client_encoding, client_at, client_format, AreFrom, next_at, clients_at, table_snapshot}
+use Rattle.ring_session.specs.Snapshots.{ClientFits, client_encoding, client_at, client_format, AreClientsFrom, next_client_at, clients_at, table_snapshot}
 use Rattle.ring_session.specs.Snapshots.{sessions_at, object_at, parts_at, table_with, restored_table, HasSnapshot}
 
 -- ---- bytes
@@ -35,27 +35,27 @@ rest_bytes front back bytes is are =
 
 -- ---- the clients
 
-next_format : (low : ℕ) → IsFormat client_encoding (λ s. ClientFits s × (low ≤ s.0)) (next_at low)
+next_format : (low : ℕ) → IsFormat client_encoding (λ s. ClientFits s × (low ≤ s.0)) (next_client_at low)
 next_format low = such_format client_encoding ClientFits (λ s. ClientFits s × (low ≤ s.0)) client_at (λ s. nat_le low s.0)
     (λ s f h. (f, leb-true low s.0 h)) (λ s f. (f.0, le-leb low s.0 f.1)) client_format
 
 take_clients : (count low : ℕ) (bytes : List ℕ) (x : List (ℕ × LastCall) × List ℕ) → IsBytes bytes → clients_at count low bytes ≡ Some x
-    → IsSplitAfter bytes (flat_map client_encoding x.0) x.1 × ((length x.0 ≡ count) × AreFrom low x.0)
+    → IsSplitAfter bytes (flat_map client_encoding x.0) x.1 × ((length x.0 ≡ count) × AreClientsFrom low x.0)
 unfolding clients_at
 take_clients zero low bytes x fits e =
-    let P : List (ℕ × LastCall) × List ℕ → Type 0 = λ y. IsSplitAfter bytes (flat_map client_encoding y.0) y.1 × ((length y.0 ≡ 0) × AreFrom low y.0) in
-    subst P (some_is ([], bytes) x e) (record { parts = refl; rest_fits = fits }, (refl, tt))
+    let P : List (ℕ × LastCall) × List ℕ → Type 0 = λ y. IsSplitAfter bytes (flat_map client_encoding y.0) y.1 × ((length y.0 ≡ 0) × AreClientsFrom low y.0) in
+    subst P (some_injective ([], bytes) x e) (record { parts = refl; rest_fits = fits }, (refl, tt))
 take_clients (suc count) low bytes x fits e =
-    let a = bind_some (next_at low bytes) (λ first. clients_at count (suc first.0.0) first.1 >>= λ others. Some (first.0 ∷ others.0, others.1)) x e in
+    let a = bind_some (next_client_at low bytes) (λ first. clients_at count (suc first.0.0) first.1 >>= λ others. Some (first.0 ∷ others.0, others.1)) x e in
     let b = bind_some (clients_at count (suc a.0.0.0) a.0.1) (λ others. Some (a.0.0 ∷ others.0, others.1)) x a.2 in
     let first = (next_format low).takes bytes a.0 fits a.1 in
     let second = take_clients count (suc a.0.0.0) a.0.1 b.0 first.0.rest_fits b.1 in
     let both = IsSplitAfter-then bytes (client_encoding a.0.0) a.0.1 (flat_map client_encoding b.0.0) b.0.1 first.0 second.0 in
     let made : List (ℕ × LastCall) × List ℕ = (a.0.0 ∷ b.0.0, b.0.1) in
-    let P : List (ℕ × LastCall) × List ℕ → Type 0 = λ y. IsSplitAfter bytes (flat_map client_encoding y.0) y.1 × ((length y.0 ≡ suc count) × AreFrom low y.0) in
-    subst P (some_is made x b.2) (rw flat_map-cons both, (ap suc second.1.0, (first.1.0, first.1.1, second.1.1)))
+    let P : List (ℕ × LastCall) × List ℕ → Type 0 = λ y. IsSplitAfter bytes (flat_map client_encoding y.0) y.1 × ((length y.0 ≡ suc count) × AreClientsFrom low y.0) in
+    subst P (some_injective made x b.2) (rw flat_map-cons both, (ap suc second.1.0, (first.1.0, first.1.1, second.1.1)))
 
-again_clients : (low : ℕ) (ss : List (ℕ × LastCall)) (rest : List ℕ) → AreFrom low ss
+again_clients : (low : ℕ) (ss : List (ℕ × LastCall)) (rest : List ℕ) → AreClientsFrom low ss
     → clients_at (length ss) low (flat_map client_encoding ss ++ rest) ≡ Some (ss, rest)
 unfolding clients_at
 again_clients low [] rest are = refl
@@ -65,7 +65,7 @@ again_clients low (s ∷ ss) rest are =
     ap (clients_at (suc (length ss)) low) regrouped
     ∙ rw ((next_format low).again s (flat_map client_encoding ss ++ rest) (are.0, are.1), again_clients (suc s.0) ss rest are.2) refl
 
-clients_format : (count low : ℕ) → IsFormat (flat_map client_encoding) (λ ss. (length ss ≡ count) × AreFrom low ss) (clients_at count low)
+clients_format : (count low : ℕ) → IsFormat (flat_map client_encoding) (λ ss. (length ss ≡ count) × AreClientsFrom low ss) (clients_at count low)
 clients_format count low = record {
   takes = take_clients count low;
   again = λ ss rest f. subst (λ (n : ℕ). clients_at n low (flat_map client_encoding ss ++ rest) ≡ Some (ss, rest)) f.0 (again_clients low ss rest f.1);
@@ -77,13 +77,13 @@ clients_format count low = record {
 abbrev IsCount : ℕ → Type 0
 IsCount n = IsWord 2 n × (n ≤ max_clients)
 
-count_format : IsFormat (λ n. big_bytes 2 n) IsCount (such_at (λ n. nat_le n max_clients) (number_at 2))
+count_format : IsFormat (λ n. big_bytes 2 n) IsCount (tested_at (λ n. nat_le n max_clients) (number_at 2))
 count_format = such_format (λ n. big_bytes 2 n) (IsWord 2) IsCount (number_at 2) (λ n. nat_le n max_clients)
     (λ n f h. (f, leb-true n max_clients h)) (λ n f. (f.0, le-leb n max_clients f.1)) number_format2
 
 -- The clients ascend, and the number before them is theirs.
 abbrev SessionsFit : ℕ × List (ℕ × LastCall) → Type 0
-SessionsFit p = IsCount p.0 × ((length p.1 ≡ p.0) × AreFrom 0 p.1)
+SessionsFit p = IsCount p.0 × ((length p.1 ≡ p.0) × AreClientsFrom 0 p.1)
 
 -- The bytes of a number of clients and the clients.
 abbrev pub sessions_encoding : ℕ × List (ℕ × LastCall) → List ℕ
@@ -91,8 +91,8 @@ sessions_encoding p = big_bytes 2 p.0 ++ flat_map client_encoding p.1
 
 sessions_format : IsFormat sessions_encoding SessionsFit sessions_at
 unfolding sessions_at
-sessions_format = then_format (λ n. big_bytes 2 n) IsCount (such_at (λ n. nat_le n max_clients) (number_at 2))
-    (λ n. flat_map client_encoding) (λ n ss. (length ss ≡ n) × AreFrom 0 ss) (λ n. clients_at n 0) count_format (λ n f. clients_format n 0)
+sessions_format = then_format (λ n. big_bytes 2 n) IsCount (tested_at (λ n. nat_le n max_clients) (number_at 2))
+    (λ n. flat_map client_encoding) (λ n ss. (length ss ≡ n) × AreClientsFrom 0 ss) (λ n. clients_at n 0) count_format (λ n f. clients_format n 0)
 
 -- The number is the length of the text.
 abbrev ObjectFits : ℕ × List ℕ → Type 0
@@ -104,12 +104,12 @@ object_encoding p = big_bytes 8 p.0 ++ p.1
 
 object_format : IsFormat object_encoding ObjectFits object_at
 unfolding object_at
-object_format = (followed u64_field text).exact
+object_format = (dependent_pair_format u64_field text).exact
 
 -- The bytes consist of these clients and this text.
 pub record AreSnapshotParts (bytes : List ℕ) (parts : List (ℕ × LastCall) × List ℕ) : Type 0 where
   pub few : length parts.0 ≤ max_clients
-  pub clients : AreFrom 0 parts.0
+  pub clients : AreClientsFrom 0 parts.0
   pub text : AreBytes parts.1
   pub whole : sessions_encoding (length parts.0, parts.0) ++ object_encoding (length parts.1, parts.1) ≡ bytes
 
@@ -120,7 +120,7 @@ parts_exact bytes parts are is =
     let a = bind_some (sessions_at bytes) (λ s. object_at s.1 >>= λ o. if length o.1 == 0 then Some (s.0.1, o.0.1) else None) parts is in
     let b = bind_some (object_at a.0.1) (λ o. if length o.1 == 0 then Some (a.0.0.1, o.0.1) else None) parts a.2 in
     let g = passed_some (length b.0.1 == 0) (a.0.0.1, b.0.0.1) parts b.2 in
-    let front = sessions_format.takes bytes a.0 (bytes_everywhere bytes are) a.1 in
+    let front = sessions_format.takes bytes a.0 (AreBytes-get_or bytes are) a.1 in
     let back = object_format.takes a.0.1 b.0 front.0.rest_fits b.1 in
     let none : b.0.1 ≡ [] = nil_from_length b.0.1 (eqb-true _ _ g.0) in
     let behind : a.0.1 ≡ object_encoding b.0.0 =
@@ -134,7 +134,7 @@ parts_exact bytes parts are is =
     })
 
 -- The parts that a snapshot was made of are read from it.
-parts_again : (ss : List (ℕ × LastCall)) (bytes : List ℕ) → length ss ≤ max_clients → AreFrom 0 ss → length bytes < 2 ^ 64
+parts_again : (ss : List (ℕ × LastCall)) (bytes : List ℕ) → length ss ≤ max_clients → AreClientsFrom 0 ss → length bytes < 2 ^ 64
     → parts_at (sessions_encoding (length ss, ss) ++ object_encoding (length bytes, bytes)) ≡ Some (ss, bytes)
 unfolding parts_at
 parts_again ss bytes few are long =

@@ -42,23 +42,23 @@ last_number None = 0
 last_number (Some last) = last.number
 
 -- Whether the client is known or may be added.
-abbrev pub has_room : {O : Type 0} → Table O → ℕ → Bool
-has_room table client = is_some (session_of table client) || nat_lt (length table.sessions) max_clients
+abbrev pub has_room_for_client : {O : Type 0} → Table O → ℕ → Bool
+has_room_for_client table client = is_some (session_of table client) || nat_lt (length table.sessions) max_clients
 
 -- Whether the call takes effect: its number is the client's next, and the table has room for the client.
-abbrev pub is_taken : {O A : Type 0} → Table O → Call A → Bool
-is_taken table c = (c.number == last_number (session_of table c.client) + 1) && has_room table c.client
+abbrev pub takes_effect_in_table : {O A : Type 0} → Table O → Call A → Bool
+takes_effect_in_table table c = (c.number == last_number (session_of table c.client) + 1) && has_room_for_client table c.client
 
 -- The answer to a call with its client's last number: the kept reply if the operation is the kept one, otherwise
 -- `Conflict`.
-abbrev pub kept_answer : Option LastCall → List ℕ → Answer
-kept_answer None operation = refusal Conflict
-kept_answer (Some last) operation = if bytes_eq last.operation operation then Kept last.reply else refusal Conflict
+abbrev pub last_call_answer : Option LastCall → List ℕ → Answer
+last_call_answer None operation = refusal Conflict
+last_call_answer (Some last) operation = if bytes_eq last.operation operation then Kept last.reply else refusal Conflict
 
 -- The answer to a call whose number isn't its client's next.
-abbrev pub other_answer : {A : Type 0} → Option LastCall → Call A → Answer
-other_answer last c =
-    if c.number == last_number last then kept_answer last c.op
+abbrev pub answer_unless_next : {A : Type 0} → Option LastCall → Call A → Answer
+answer_unless_next last c =
+    if c.number == last_number last then last_call_answer last c.op
     else if nat_lt c.number (last_number last) then refusal Stale
     else refusal NumberGap
 
@@ -67,14 +67,14 @@ module _ {O : Type 0} (object : Sequential O) where
   abbrev pub table_answer : {A : Type 0} → Table O → Call A → Answer
   table_answer table c =
       let last = session_of table c.client in
-      if c.number == last_number last + 1 then (if has_room table c.client then Done (object.reply table.content c.op) else refusal SessionsFull)
-      else other_answer last c
+      if c.number == last_number last + 1 then (if has_room_for_client table c.client then Done (object.reply table.content c.op) else refusal SessionsFull)
+      else answer_unless_next last c
 
   -- Sessions 3: the table after a call. A call that takes effect is applied and kept; any other call leaves the table
   -- unchanged.
   abbrev pub table_next : {A : Type 0} → Table O → Call A → Table O
   table_next table c =
-      if is_taken table c
+      if takes_effect_in_table table c
       then table_of (insert_entry nat_cmp table.sessions c.client (last_call c (object.reply table.content c.op))) (object.next table.content c.op)
       else table
 

@@ -7,10 +7,10 @@ use Rattle.std.specs.List.{filter}
 use Rattle.ring_object.specs.Operations.{Sequential}
 use Rattle.ring_payload.specs.declared.call.Call.{Call}
 use Rattle.ring_session.specs.declared.answer.Answer.{Answer}
-use Rattle.ring_session.specs.RecentAnswers.{last_kept}
+use Rattle.ring_session.specs.RecentAnswers.{last_64}
 use Rattle.ring_session.specs.SessionAnswer.{is_same}
 use Rattle.ring_session.specs.Table.{Table, table_answer, table_next}
-use Rattle.ring_session.specs.declared.answered.TicketAnswer.{TicketAnswer}
+use Rattle.ring_session.specs.declared.ticket_answer.TicketAnswer.{TicketAnswer}
 
 -- A ticket: its call, and the number of calls that its node had done at the submission. The ticket's number is its
 -- position in the list of tickets, counted from 0.
@@ -28,12 +28,12 @@ first_place c since at [] = None
 first_place c since at (d ∷ ds) = if nat_le since at && is_same c d then Some at else first_place c since (at + 1) ds
 
 -- The place of the call done that answers the ticket, if there is one.
-abbrev pub place_of : {A : Type 0} → List (Call A) → TicketCall A → Option ℕ
-place_of done t = first_place t.call t.since 0 done
+abbrev pub answering_place : {A : Type 0} → List (Call A) → TicketCall A → Option ℕ
+answering_place done t = first_place t.call t.since 0 done
 
 -- The tickets that are not answered yet.
-abbrev pub unanswered : {A : Type 0} → List (Call A) → List (TicketCall A) → List (TicketCall A)
-unanswered {A} done tickets = filter (λ (t : TicketCall A). is_none (place_of done t)) tickets
+abbrev pub unanswered_tickets : {A : Type 0} → List (Call A) → List (TicketCall A) → List (TicketCall A)
+unanswered_tickets {A} done tickets = filter (λ (t : TicketCall A). is_none (answering_place done t)) tickets
 
 -- Whether this is the place.
 abbrev pub is_place : ℕ → Option ℕ → Bool
@@ -45,7 +45,7 @@ is_place place (Some p) = p == place
 abbrev pub answers_at : {A : Type 0} → Answer → List (Call A) → ℕ → ℕ → List (TicketCall A) → List (TicketAnswer A)
 answers_at answer done place ticket [] = []
 answers_at answer done place ticket (t ∷ ts) =
-    (if is_place place (place_of done t) then record { ticket = ticket; call = t.call; answer = answer } ∷ [] else [])
+    (if is_place place (answering_place done t) then record { ticket = ticket; call = t.call; answer = answer } ∷ [] else [])
     ++ answers_at answer done place (ticket + 1) ts
 
 -- The answers to tickets if a node does more calls after those done, in order, by the session table before the new
@@ -58,9 +58,9 @@ answers_after object table tickets done (c ∷ more) =
 
 -- The last 64 answers, which are kept.
 abbrev pub kept_answers : {A : Type 0} → List (TicketAnswer A) → List (TicketAnswer A)
-kept_answers answers = last_kept answers
+kept_answers answers = last_64 answers
 
 -- The answer to the ticket among these answers.
-abbrev pub answer_to : {A : Type 0} → ℕ → List (TicketAnswer A) → Option Answer
-answer_to ticket [] = None
-answer_to ticket (a ∷ rest) = if a.ticket == ticket then Some a.answer else answer_to ticket rest
+abbrev pub ticket_answer_in : {A : Type 0} → ℕ → List (TicketAnswer A) → Option Answer
+ticket_answer_in ticket [] = None
+ticket_answer_in ticket (a ∷ rest) = if a.ticket == ticket then Some a.answer else ticket_answer_in ticket rest

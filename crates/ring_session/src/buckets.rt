@@ -6,7 +6,7 @@ ghost use Rattle.std.specs.Prelude.{◌≡◌, ◌≢◌, ℕ, ◌<◌, ◌≤�
 ghost use Rattle.ring_session.specs.Buckets.{bucket_of, AreChained};
 
 use crate::MAX_UNANSWERED;
-use crate::pending::Pending;
+use crate::pending_ticket::PendingTicket;
 use ring_payload::Call;
 use std::alloc::Allocator;
 
@@ -33,7 +33,7 @@ impl Buckets {
     /// Returns the buckets of these tickets, each chain in ascending order.
     ///
     /// There must be at most 64 tickets.
-    pub(crate) fn of<A: Allocator + Copy>(pending: &[Pending<A>]) -> Buckets
+    pub(crate) fn of_tickets<A: Allocator + Copy>(pending: &[PendingTicket<A>]) -> Buckets
         requires { length pending.now ≤ 64 }
         ensures { AreChained result.first result.next 0 pending.now }
     {
@@ -42,13 +42,13 @@ impl Buckets {
             next: [0; MAX_UNANSWERED],
         };
         for place in (0..pending.len()).rev() {
-            buckets.put(bucket_of(&pending[place].call), place);
+            buckets.push_front_of_bucket(bucket_of(&pending[place].call), place);
         }
         buckets
     }
 
     /// Puts `place` at the front of the chain of `bucket`.
-    fn put(&mut self, bucket: usize, place: usize)
+    fn push_front_of_bucket(&mut self, bucket: usize, place: usize)
         requires bucket { bucket < 256 }
         requires place { place < 64 }
         ensures first { slice_index self.new.first bucket ≡ place }
@@ -91,40 +91,40 @@ fn bucket_of<A: Allocator + Copy>(call: &Call<A>) -> usize
 /// Rules: The replicated log 14
 #[derive(Drop)]
 pub(crate) struct CommittedFlags {
-    places: [bool; MAX_UNANSWERED],
+    committed_marks: [bool; MAX_UNANSWERED],
 }
 
 impl CommittedFlags {
     /// Returns the flags of 64 positions, none of them marked.
     pub(crate) fn new() -> CommittedFlags
-        ensures { (j : ℕ) → slice_index_or result.places j false ≡ false }
+        ensures { (j : ℕ) → slice_index_or result.committed_marks j false ≡ false }
     {
         CommittedFlags {
-            places: [false; MAX_UNANSWERED],
+            committed_marks: [false; MAX_UNANSWERED],
         }
     }
 
     /// Returns whether position `place`, counted from 0, is marked.
     ///
     /// `place` must be below 64.
-    pub(crate) fn has(&self, place: usize) -> bool
+    pub(crate) fn is_marked(&self, place: usize) -> bool
         requires { place < 64 }
-        ensures { result ≡ slice_index_or self.now.places place false }
+        ensures { result ≡ slice_index_or self.now.committed_marks place false }
     {
-        self.places[place]
+        self.committed_marks[place]
     }
 
     /// Marks position `place` if `same` is true, and returns whether this marked it newly.
     ///
     /// `same` says that the call of the ticket there is the committed one. `place` counts from 0 and must be below 64.
-    pub(crate) fn take(&mut self, place: usize, same: bool) -> bool
+    pub(crate) fn mark_if_same(&mut self, place: usize, same: bool) -> bool
         requires { place < 64 }
-        ensures first { result ≡ (same && not (slice_index_or self.old.places place false)) }
-        ensures this { slice_index_or self.new.places place false ≡ (slice_index_or self.old.places place false || same) }
-        ensures others { (j : ℕ) → j ≢ place → slice_index_or self.new.places j false ≡ slice_index_or self.old.places j false }
+        ensures first { result ≡ (same && not (slice_index_or self.old.committed_marks place false)) }
+        ensures this { slice_index_or self.new.committed_marks place false ≡ (slice_index_or self.old.committed_marks place false || same) }
+        ensures others { (j : ℕ) → j ≢ place → slice_index_or self.new.committed_marks j false ≡ slice_index_or self.old.committed_marks j false }
     {
-        let was = self.places[place];
-        self.places[place] = was || same;
+        let was = self.committed_marks[place];
+        self.committed_marks[place] = was || same;
         same && !was
     }
 }

@@ -6,7 +6,7 @@ ghost use Rattle.std.specs.Prelude.{◌≡◌, [], ◌∷◌, ◌++◌, List, On
 ghost use Rattle.ring_base.specs.declared.fault.Fault.TheVariants.{Memory};
 ghost use Rattle.ring_payload.specs.declared.call.Call.{Call as OneCall};
 ghost use Rattle.ring_session.specs.Deduplicated.{deduplicated};
-ghost use Rattle.ring_session.specs.Effects.{AreOf};
+ghost use Rattle.ring_session.specs.Effects.{AreEffectsOf};
 
 use crate::{Answer, Sessions, table_law};
 use ring_base::Fault;
@@ -27,9 +27,9 @@ pub struct Effects<A: Allocator + Copy + Drop> {
 }
 
 impl<A: Allocator + Copy + Drop> Model for Effects<A> {
-    ghost use Rattle.ring_session.specs.Effects.{Found};
+    ghost use Rattle.ring_session.specs.Effects.{TableWithEffects};
 
-    ghost Value = { Found A };
+    ghost Value = { TableWithEffects A };
 
     ghost view = { λ e. record { table = e.sessions; calls = e.calls.items } };
 }
@@ -41,7 +41,7 @@ impl<A: Allocator + Copy + Drop> Effects<A> {
     ///
     /// Rules: Sessions 6
     pub fn new(alloc: A) -> Result<Effects<A>, Fault>
-        ensures ok { IfOk result (λ effects. AreOf [] effects) }
+        ensures ok { IfOk result (λ effects. AreEffectsOf [] effects) }
         ensures refused { IfErr result (λ fault. fault ≡ Memory) }
     {
         Ok(Effects {
@@ -59,7 +59,7 @@ impl<A: Allocator + Copy + Drop> Effects<A> {
     ///
     /// Rules: Sessions 6
     pub fn add(&mut self, call: &Call<A>) -> Result<(), Fault>
-        ensures ok { (before : List (OneCall A)) → AreOf before self.old → OnOk result (AreOf (before ++ call.now ∷ []) self.new) }
+        ensures ok { (before : List (OneCall A)) → AreEffectsOf before self.old → OnOk result (AreEffectsOf (before ++ call.now ∷ []) self.new) }
         ensures refused { IfErr result (λ fault. fault ≡ Memory) }
     {
         // A law, without effect at run time: it gives the proof the answer to one more call.
@@ -80,7 +80,7 @@ impl<A: Allocator + Copy + Drop> Effects<A> {
     ///
     /// Rules: Sessions 6
     pub fn add_all(&mut self, calls: &[Call<A>]) -> Result<(), Fault>
-        ensures ok { (before : List (OneCall A)) → AreOf before self.old → OnOk result (AreOf (before ++ calls.now) self.new) }
+        ensures ok { (before : List (OneCall A)) → AreEffectsOf before self.old → OnOk result (AreEffectsOf (before ++ calls.now) self.new) }
         ensures refused { IfErr result (λ fault. fault ≡ Memory) }
     {
         for call in calls {

@@ -10,28 +10,28 @@
 #![tactic(auto)]
 
 mod answer;
-mod answered;
 mod buckets;
 mod effects;
-mod laws;
-mod pending;
-mod recent;
-mod session;
+mod last_call_bytes;
+mod pending_ticket;
+mod recent_answers;
+mod session_laws;
 mod sessions;
 mod snapshots;
 mod ticket;
+mod ticket_answer;
 mod ticket_laws;
 mod tickets;
 
 pub use answer::Answer;
-pub use answered::TicketAnswer;
 pub use effects::{Effects, effects_of};
-pub use laws::{deduplicated_law, session_law, snapshot_law, table_law};
-pub use pending::Pending;
-pub use recent::RecentAnswers;
+pub use pending_ticket::PendingTicket;
+pub use recent_answers::RecentAnswers;
 pub use ring_object::{Object, Reply};
+pub use session_laws::{deduplicated_law, session_law, snapshot_law, table_law};
 pub use sessions::Sessions;
 pub use ticket::Ticket;
+pub use ticket_answer::TicketAnswer;
 pub use ticket_laws::tickets_law;
 pub use tickets::{Tickets, answers_of, contains_call, copy_of};
 

@@ -7,17 +7,17 @@ ghost use Rattle.ring_base.specs.declared.fault.Fault.TheVariants.{Memory, Sessi
 ghost use Rattle.ring_payload.specs.declared.call.Call.{Call};
 ghost use Rattle.ring_object.specs.Snapshots.{IsSnapshotRefusal};
 ghost use Rattle.ring_session.specs.Deduplicated.{max_clients};
-ghost use Rattle.ring_session.specs.SessionAnswer.{refusal, reply_in, session_answer};
+ghost use Rattle.ring_session.specs.SessionAnswer.{refusal, decode_reply, session_answer};
 ghost use Rattle.ring_session.specs.Snapshots.{table_snapshot, restored_table};
 ghost use Rattle.ring_session.specs.TicketEffects.{numbers_in, table_effects};
 ghost use Rattle.ring_session.specs.Table.{opening, session_of, table_answer, table_next, table_after};
 
 use crate::MAX_CLIENTS;
 use crate::answer::Answer;
-use crate::session::other_answer;
-use crate::snapshots::{append_clients, parts_of, read_clients};
+use crate::last_call_bytes::answer_unless_next;
+use crate::snapshots::{append_clients, read_clients, split_sessions_snapshot};
 use ring_base::Fault;
-use ring_object::{Object, append_sized, copy_by_snapshot};
+use ring_object::{Object, append_sized_snapshot, copy_by_snapshot};
 use ring_payload::Call;
 use ring_session_entry::LastCall;
 use std::alloc::Allocator;
@@ -85,21 +85,21 @@ impl<O: Object> Sessions<O> {
             → IfOk result (λ answer. session_answer O.sequential (calls ++ call.now ∷ []) (length calls) ≡ Some answer) }
 
         // A call of number 0 has no reply, and `SessionsFull` comes only with exactly `max_clients` known clients.
-        ensures replied_from_one { IfOk result (λ answer. IsSome (reply_in answer) → 1 ≤ call.now.number) }
+        ensures replied_from_one { IfOk result (λ answer. IsSome (decode_reply answer) → 1 ≤ call.now.number) }
         ensures full_only_at_limit { IfOk result (λ answer. answer ≡ refusal SessionsFull → length self.old.sessions ≡ max_clients) }
     {
         match self.sessions.get_mut(&call.client) {
             Some(last) => {
-                if last.is_next(call.number) {
+                if last.is_next_number(call.number) {
                     Ok(Answer::Done(last.apply(&mut self.object, call)?))
                 } else {
-                    Ok(other_answer(last, call))
+                    Ok(answer_unless_next(last, call))
                 }
             }
             // An unknown client's last number is 0.
             None => match call.number {
                 0 => Ok(Answer::refusal(Fault::Conflict)),
-                1 => self.admit(call),
+                1 => self.apply_first_call(call),
                 _ => Ok(Answer::refusal(Fault::NumberGap)),
             },
         }
@@ -123,7 +123,7 @@ impl<O: Object> Sessions<O> {
         ensures refused { IfErr result (λ fault. fault ≡ Memory) }
     {
         let start = out.len();
-        if let Err(fault) = self.append(out) {
+        if let Err(fault) = self.append_snapshot(out) {
             out.truncate(start);
             return Err(fault);
         }
@@ -134,14 +134,14 @@ impl<O: Object> Sessions<O> {
     ///
     /// Errors: `Memory` if an allocation fails; a prefix of the snapshot may then have been appended.
     #[tactic(auto, unfolding(ring_object::specs::Sized::sized))]
-    fn append(&self, out: &mut Vec<u8, O::Alloc>) -> Result<(), Fault>
+    fn append_snapshot(&self, out: &mut Vec<u8, O::Alloc>) -> Result<(), Fault>
         ensures content { OnOk result (O.is_content self.now.content) }
         ensures ok { OnOk result (out.new.items ≡ out.old.items ++ table_snapshot O.sequential.snapshot_of self.now) }
         ensures front { take (vec_len out.old) out.new.items ≡ out.old.items }
         ensures refused { IfErr result (λ fault. fault ≡ Memory) }
     {
         append_clients(out, &self.sessions)?;
-        append_sized(&self.object, out)
+        append_sized_snapshot(&self.object, out)
     }
 
     /// Returns the table whose snapshot is exactly `bytes`, in memory of `alloc`.
@@ -155,7 +155,7 @@ impl<O: Object> Sessions<O> {
         ensures ok { IfOk result (λ sessions. restored_table O.sequential.restored bytes.now ≡ Some sessions) }
         ensures refused { IfErr result (IsSnapshotRefusal (restored_table O.sequential.restored bytes.now)) }
     {
-        let Some((count, clients, object)) = parts_of(bytes) else {
+        let Some((count, clients, object)) = split_sessions_snapshot(bytes) else {
             return Err(Fault::BadSnapshot);
         };
         let object = O::restore(alloc, object)?;
@@ -190,7 +190,7 @@ impl<O: Object> Sessions<O> {
     /// It includes the calls before a snapshot from which the table was restored. It saturates at `u64::MAX`.
     ///
     /// Rules: Sessions 2
-    pub fn effects(&self) -> u64
+    pub fn effect_count(&self) -> u64
         ensures { result ≡ table_effects self.now }
     {
         sum_of_numbers(&self.sessions)
@@ -202,7 +202,7 @@ impl<O: Object> Sessions<O> {
     /// removed again if the object refuses.
     ///
     /// Errors: `Memory` if an allocation fails; the table is then unchanged.
-    fn admit(&mut self, call: &Call<O::Alloc>) -> Result<Answer, Fault>
+    fn apply_first_call(&mut self, call: &Call<O::Alloc>) -> Result<Answer, Fault>
         requires unknown { session_of self.old call.now.client ≡ None }
         requires first { call.now.number ≡ 1 }
         ensures answer { IfOk result (λ answer. answer ≡ table_answer O.sequential self.old call.now) }
@@ -217,7 +217,7 @@ impl<O: Object> Sessions<O> {
         let last = self
             .sessions
             .entry(call.client)?
-            .or_insert(LastCall::none(self.alloc));
+            .or_insert(LastCall::before_first_call(self.alloc));
         match last.apply(&mut self.object, call) {
             Ok(reply) => Ok(Answer::Done(reply)),
             Err(fault) => {

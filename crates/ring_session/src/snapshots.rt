@@ -8,13 +8,13 @@ ghost use Rattle.std.specs.List.{flat_map};
 ghost use Rattle.std.specs.Option.{option_map};
 ghost use Rattle.ring_base.specs.declared.fault.Fault.TheVariants.{Memory};
 ghost use Rattle.byteorder.specs.Endian.{big_bytes};
-ghost use Rattle.ring_payload.specs.Codecs.{number_at, text_at, ◌⊕◌};
+ghost use Rattle.ring_payload.specs.Codecs.{number_at, raw_bytes_at, ◌⊕◌};
 ghost use Rattle.ring_payload.specs.Operations.{op_at};
 ghost use Rattle.ring_session.specs.Deduplicated.{max_clients};
-ghost use Rattle.ring_session.specs.Snapshots.{client_encoding, reply_at, next_at, clients_at, clients_in, AreParts};
+ghost use Rattle.ring_session.specs.Snapshots.{client_encoding, reply_at, next_client_at, clients_at, clients_in, AreSplitParts};
 
 use crate::MAX_CLIENTS;
-use crate::session::append_last;
+use crate::last_call_bytes::append_last_call;
 use byteorder::{BigEndian, ByteOrder};
 use ring_base::Fault;
 use ring_object::MAX_REPLY;
@@ -67,7 +67,7 @@ pub fn append_clients<A: Allocator + Copy>(
     append_number(out, sessions.len() as u64, 2)?;
     for (client, last) in sessions.iter() {
         append_number(out, u64::from(*client), 4)?;
-        append_last(last, out)?;
+        append_last_call(last, out)?;
     }
     Ok(())
 }
@@ -92,8 +92,8 @@ fn first_number(width: usize, bytes: &[u8]) -> Option<(u64, &[u8])>
 /// Splits off the first `len` bytes.
 ///
 /// Returns `None` if there are fewer.
-fn first_text(len: u64, bytes: &[u8]) -> Option<(&[u8], &[u8])>
-    ensures { option_map (λ p. (p.0.now, p.1.now)) result ≡ text_at len bytes.now }
+fn split_off_bytes(len: u64, bytes: &[u8]) -> Option<(&[u8], &[u8])>
+    ensures { option_map (λ p. (p.0.now, p.1.now)) result ≡ raw_bytes_at len bytes.now }
 {
     if (bytes.len() as u64) < len {
         return None;
@@ -112,7 +112,7 @@ fn first_operation(bytes: &[u8]) -> Option<(&[u8], &[u8])>
     if len > MAX_OPERATION as u64 {
         return None;
     }
-    first_text(len, rest)
+    split_off_bytes(len, rest)
 }
 
 /// Splits off a reply preceded by its length in one byte.
@@ -128,7 +128,7 @@ fn first_reply(bytes: &[u8]) -> Option<(&[u8], &[u8])>
     if *len as usize > MAX_REPLY {
         return None;
     }
-    first_text(u64::from(*len), rest)
+    split_off_bytes(u64::from(*len), rest)
 }
 
 /// A client and its last call, borrowed from the bytes of a snapshot.
@@ -162,7 +162,7 @@ impl<'a> ClientFields<'a> {
     }
 
     /// Returns the smallest number that the next client may have.
-    fn above(&self) -> u64
+    fn next_client_low(&self) -> u64
         ensures { result ≡ suc self.now.0 }
     {
         u64::from(self.client) + 1
@@ -175,15 +175,15 @@ impl<'a> ClientFields<'a> {
         ensures ok { IfOk result (λ last. last ≡ self.now.1) }
         ensures refused { IfErr result (λ fault. fault ≡ Memory) }
     {
-        LastCall::of(alloc, self.number, self.operation, self.reply)
+        LastCall::from_parts(alloc, self.number, self.operation, self.reply)
     }
 }
 
 /// Splits off the first client.
 ///
 /// Returns `None` if there is none, or its number is below `low`.
-fn first_client(low: u64, bytes: &[u8]) -> Option<(ClientFields<'_>, &[u8])>
-    ensures { option_map (λ p. (p.0, p.1.now)) result ≡ next_at low bytes.now }
+fn split_off_client(low: u64, bytes: &[u8]) -> Option<(ClientFields<'_>, &[u8])>
+    ensures { option_map (λ p. (p.0, p.1.now)) result ≡ next_client_at low bytes.now }
 {
     let (client, rest) = first_number(4, bytes)?;
     let (number, rest) = first_number(8, rest)?;
@@ -211,11 +211,11 @@ fn bytes_after_clients(count: u64, bytes: &[u8]) -> Option<&[u8]>
     let mut rest = bytes;
     let mut low = 0;
     for _i in 0..count {
-        let Some((client_entry, behind)) = first_client(low, rest) else {
+        let Some((client_entry, rest_after_client)) = split_off_client(low, rest) else {
             return None;
         };
-        low = client_entry.above();
-        rest = behind;
+        low = client_entry.next_client_low();
+        rest = rest_after_client;
     }
     Some(rest)
 }
@@ -227,8 +227,8 @@ fn bytes_after_clients(count: u64, bytes: &[u8]) -> Option<&[u8]>
 ///
 /// Rules: Sessions 12
 /// Formats: Snapshots
-pub fn parts_of(bytes: &[u8]) -> Option<(u64, &[u8], &[u8])>
-    ensures { AreParts bytes.now (option_map (λ p. (p.0, p.1.now, p.2.now)) result) }
+pub fn split_sessions_snapshot(bytes: &[u8]) -> Option<(u64, &[u8], &[u8])>
+    ensures { AreSplitParts bytes.now (option_map (λ p. (p.0, p.1.now, p.2.now)) result) }
 {
     let (count, clients) = first_number(2, bytes)?;
     if count > MAX_CLIENTS as u64 {
@@ -236,7 +236,7 @@ pub fn parts_of(bytes: &[u8]) -> Option<(u64, &[u8], &[u8])>
     }
     let rest = bytes_after_clients(count, clients)?;
     let (len, rest) = first_number(8, rest)?;
-    let (object, rest) = first_text(len, rest)?;
+    let (object, rest) = split_off_bytes(len, rest)?;
     if !rest.is_empty() {
         return None;
     }
@@ -264,11 +264,11 @@ pub fn read_clients<A: Allocator + Copy>(
     let mut rest = bytes;
     let mut low = 0;
     for _i in 0..count {
-        let (client_entry, behind) = first_client(low, rest).unwrap();
+        let (client_entry, rest_after_client) = split_off_client(low, rest).unwrap();
         let last = client_entry.last_call(alloc)?;
         sessions.insert(client_entry.client(), last)?;
-        low = client_entry.above();
-        rest = behind;
+        low = client_entry.next_client_low();
+        rest = rest_after_client;
     }
     Ok(sessions)
 }

@@ -6,10 +6,10 @@ ghost use Rattle.std.specs.Prelude.{◌≡◌, ◌||◌, nat_le, ℕ, List, [], 
 ghost use Rattle.ring_base.specs.Numbers.{max_number};
 ghost use Rattle.ring_payload.specs.declared.call.Call.{Call as OneCall};
 ghost use Rattle.ring_session.specs.Table.{Table};
-ghost use Rattle.ring_session.specs.declared.answered.TicketAnswer.{TicketAnswer};
-ghost use Rattle.ring_session.specs.RecentAnswers.{kept_answer};
-ghost use Rattle.ring_session.specs.Tickets.{TicketCall, unanswered, answers_after, kept_answers, answer_to};
-ghost use Rattle.ring_session.specs.Pendings.{Tickets, no_tickets, is_full, with_ticket, answers_behind, with_answers, AreTickets};
+ghost use Rattle.ring_session.specs.declared.ticket_answer.TicketAnswer.{TicketAnswer};
+ghost use Rattle.ring_session.specs.RecentAnswers.{recent_answer_to};
+ghost use Rattle.ring_session.specs.Tickets.{TicketCall, unanswered_tickets, answers_after, kept_answers, ticket_answer_in};
+ghost use Rattle.ring_session.specs.TicketsState.{Tickets, no_tickets, may_give_no_ticket, with_ticket, answers_after_committed, with_answers, AreTickets};
 
 use ring_object::Object;
 
@@ -27,14 +27,14 @@ pub fn tickets_law<O: Object>()
         AreTickets (asked ++ record { call = c; since = length done } ∷ []) done all (with_ticket t c) }
     ensures answers { (table : Table O) (asked : List (TicketCall O.Alloc)) (done more : List (OneCall O.Alloc)) (all : List (TicketAnswer O.Alloc))
         (t : Tickets O.Alloc) → AreTickets asked done all t →
-        answers_behind O.sequential table t.pending [] more ≡ answers_after O.sequential table asked done more }
+        answers_after_committed O.sequential table t.pending [] more ≡ answers_after O.sequential table asked done more }
     ensures kept { (asked : List (TicketCall O.Alloc)) (done more : List (OneCall O.Alloc)) (all new : List (TicketAnswer O.Alloc)) (t : Tickets O.Alloc) →
         AreTickets asked done all t →
         AreTickets asked (done ++ more) (all ++ new) (with_answers t more new) }
     ensures full { (asked : List (TicketCall O.Alloc)) (done : List (OneCall O.Alloc)) (all : List (TicketAnswer O.Alloc)) (t : Tickets O.Alloc) →
         AreTickets asked done all t →
-        is_full t ≡ nat_le 64 (length (unanswered done asked)) || nat_le max_number (length asked) }
+        may_give_no_ticket t ≡ nat_le 64 (length (unanswered_tickets done asked)) || nat_le max_number (length asked) }
     ensures reply { (asked : List (TicketCall O.Alloc)) (done : List (OneCall O.Alloc)) (all : List (TicketAnswer O.Alloc)) (t : Tickets O.Alloc) (ticket : ℕ) →
         AreTickets asked done all t →
-        kept_answer ticket t.kept ≡ answer_to ticket (kept_answers all) }
+        recent_answer_to ticket t.kept ≡ ticket_answer_in ticket (kept_answers all) }
 {}

@@ -9,15 +9,15 @@ ghost use Rattle.ring_payload.specs.declared.call.Call.{Call as OneCall};
 ghost use Rattle.ring_session.specs.Buckets.{AreChained, AreCommitted};
 ghost use Rattle.ring_session.specs.SessionAnswer.{is_done, is_same};
 ghost use Rattle.ring_session.specs.Table.{table_next};
-ghost use Rattle.ring_session.specs.RecentAnswers.{kept_answer};
+ghost use Rattle.ring_session.specs.RecentAnswers.{recent_answer_to};
 ghost use Rattle.ring_session.specs.TicketEffects.{done_after};
-ghost use Rattle.ring_session.specs.Pendings.{no_tickets, is_full, with_ticket, contains_call, answers_to, answers_behind, unanswered_by, with_answers};
+ghost use Rattle.ring_session.specs.TicketsState.{no_tickets, may_give_no_ticket, with_ticket, contains_call, answers_to, answers_after_committed, unanswered_by, with_answers};
 
-use crate::answered::TicketAnswer;
 use crate::buckets::{Buckets, CommittedFlags};
-use crate::pending::Pending;
-use crate::recent::RecentAnswers;
+use crate::pending_ticket::PendingTicket;
+use crate::recent_answers::RecentAnswers;
 use crate::ticket::Ticket;
+use crate::ticket_answer::TicketAnswer;
 use crate::{Answer, MAX_UNANSWERED, Sessions};
 use ring_base::{Fault, MAX};
 use ring_object::Object;
@@ -34,7 +34,7 @@ use std::marker::Model;
 #[derive(Drop)]
 pub struct Tickets<A: Allocator + Copy + Drop = Global> {
     given: u64,
-    pending: Vec<Pending<A>, A>,
+    pending: Vec<PendingTicket<A>, A>,
     recent: RecentAnswers<A>,
 }
 
@@ -42,9 +42,9 @@ impl<A: Allocator + Copy + Drop> Model for Tickets<A> {
     ghost use Rattle.std.specs.Prelude.{◌≤◌, length};
     ghost use Rattle.std.specs.Vec.{vec_capacity};
     ghost use Rattle.ring_base.specs.Numbers.{max_number};
-    ghost use Rattle.ring_session.specs.Pendings.{Tickets as ToldTickets};
+    ghost use Rattle.ring_session.specs.TicketsState.{Tickets as TicketsState};
 
-    ghost Value = { ToldTickets A };
+    ghost Value = { TicketsState A };
 
     ghost view = { λ t. record { given = t.given; pending = t.pending.items; kept = t.recent } };
 
@@ -56,7 +56,7 @@ impl<A: Allocator + Copy + Drop> Clone for Tickets<A> {
     ghost is_clone = { λ tickets copy. copy ≡ tickets };
 
     fn clone(&self) -> Result<Tickets<A>, AllocError> {
-        let mut pending: Vec<Pending<A>, A> = Vec::with_capacity(
+        let mut pending: Vec<PendingTicket<A>, A> = Vec::with_capacity(
             *self.pending.allocator(),
             MAX_UNANSWERED,
         )?;
@@ -92,8 +92,8 @@ impl<A: Allocator + Copy + Drop> Tickets<A> {
     ///
     /// Rules: The replicated log 13
     pub fn check(&self) -> Result<(), Fault>
-        ensures ok { OnOk result (is_full self.now ≡ false) }
-        ensures full { IfErr result (λ fault. is_full self.now ≡ true) }
+        ensures ok { OnOk result (may_give_no_ticket self.now ≡ false) }
+        ensures full { IfErr result (λ fault. may_give_no_ticket self.now ≡ true) }
         ensures refused { IfErr result (λ fault. fault ≡ PendingFull) }
     {
         if MAX_UNANSWERED <= self.pending.len() || MAX <= self.given {
@@ -107,13 +107,13 @@ impl<A: Allocator + Copy + Drop> Tickets<A> {
     /// [`check`](Tickets::check) must succeed. Does not allocate.
     ///
     /// Rules: The replicated log 13
-    pub fn give(&mut self, call: Call<A>) -> Ticket
-        requires { is_full self.old ≡ false }
+    pub fn give_ticket(&mut self, call: Call<A>) -> Ticket
+        requires { may_give_no_ticket self.old ≡ false }
         ensures ticket { result ≡ self.old.given }
         ensures tickets { self.new ≡ with_ticket self.old call }
     {
         let ticket = Ticket::new(self.given);
-        self.pending.push_reserved(Pending { ticket, call });
+        self.pending.push_reserved(PendingTicket { ticket, call });
         self.given += 1;
         ticket
     }
@@ -121,7 +121,7 @@ impl<A: Allocator + Copy + Drop> Tickets<A> {
     /// Returns the unanswered tickets with their calls, at most 64, in the order in which they were given.
     ///
     /// Rules: The replicated log 13
-    pub fn pending(&self) -> &[Pending<A>]
+    pub fn pending(&self) -> &[PendingTicket<A>]
         ensures { result.now ≡ self.now.pending }
     {
         self.pending.as_slice()
@@ -132,18 +132,18 @@ impl<A: Allocator + Copy + Drop> Tickets<A> {
     /// The tickets of these calls are answered from now on. Does not allocate.
     ///
     /// Rules: The replicated log 14 and 15
-    pub fn keep(&mut self, committed: &[Call<A>], answers: &[TicketAnswer<A>])
+    pub fn record_committed_answers(&mut self, committed: &[Call<A>], answers: &[TicketAnswer<A>])
         ensures { self.new ≡ with_answers self.old committed.now answers.now }
     {
         remove_committed(&mut self.pending, committed);
-        self.recent.extend(answers);
+        self.recent.append_answers(answers);
     }
 
     /// Returns the answer to `ticket` if it is among the 64 tickets answered last, otherwise `None`.
     ///
     /// Rules: The replicated log 15
     pub fn reply(&self, ticket: Ticket) -> Option<Answer>
-        ensures { result ≡ kept_answer ticket self.now.kept }
+        ensures { result ≡ recent_answer_to ticket self.now.kept }
     {
         self.recent.answer_to(ticket)
     }
@@ -153,14 +153,14 @@ impl<A: Allocator + Copy + Drop> Tickets<A> {
 ///
 /// The pending calls of a node differ nearly all by their number, so it is compared first, inline.
 #[inline(always)]
-fn is_same<A: Allocator + Copy>(call: &Call<A>, other: &Call<A>) -> bool
+fn is_same_call_by_number<A: Allocator + Copy>(call: &Call<A>, other: &Call<A>) -> bool
     ensures { result ≡ is_same call.now other.now }
 {
-    other.number == call.number && is_same_call(call, other)
+    other.number == call.number && is_equal_call(call, other)
 }
 
 /// Returns whether the two calls have the same client, number and operation.
-fn is_same_call<A: Allocator + Copy>(call: &Call<A>, other: &Call<A>) -> bool
+fn is_equal_call<A: Allocator + Copy>(call: &Call<A>, other: &Call<A>) -> bool
     ensures { result ≡ is_same call.now other.now }
 {
     other.client == call.client
@@ -180,7 +180,7 @@ pub fn copy_of<A: Allocator + Copy>(call: &Call<A>) -> Result<Call<A>, AllocErro
 }
 
 /// Returns whether the answer is `Done`.
-fn is_done(answer: &Answer) -> bool
+fn is_done_answer(answer: &Answer) -> bool
     ensures { result ≡ is_done answer.now }
 {
     matches!(answer, Answer::Done(_))
@@ -188,7 +188,7 @@ fn is_done(answer: &Answer) -> bool
 
 /// Removes the tickets whose calls were committed.
 fn remove_committed<A: Allocator + Copy + Drop>(
-    pending: &mut Vec<Pending<A>, A>,
+    pending: &mut Vec<PendingTicket<A>, A>,
     committed: &[Call<A>],
 )
     requires { length pending.old.items ≤ 64 }
@@ -207,7 +207,7 @@ fn remove_committed<A: Allocator + Copy + Drop>(
 /// A separate function keeps the large stack slot for the tickets' positions out of its caller.
 #[inline(never)]
 fn remove_committed_some<A: Allocator + Copy + Drop>(
-    pending: &mut Vec<Pending<A>, A>,
+    pending: &mut Vec<PendingTicket<A>, A>,
     committed: &[Call<A>],
 )
     requires { length pending.old.items ≤ 64 }
@@ -215,10 +215,10 @@ fn remove_committed_some<A: Allocator + Copy + Drop>(
     ensures few { length pending.new.items ≤ length pending.old.items }
     ensures capacity { vec_capacity pending.new ≡ vec_capacity pending.old }
 {
-    let gone = committed_among(pending.as_slice(), committed);
+    let committed_flags = committed_among(pending.as_slice(), committed);
     let mut kept = 0;
     for place in 0..pending.len() {
-        if !gone.has(place) {
+        if !committed_flags.is_marked(place) {
             pending.swap(kept, place);
             kept += 1;
         }
@@ -228,35 +228,35 @@ fn remove_committed_some<A: Allocator + Copy + Drop>(
 
 /// Returns the flags of the tickets whose calls are among the committed calls.
 fn committed_among<A: Allocator + Copy>(
-    pending: &[Pending<A>],
+    pending: &[PendingTicket<A>],
     committed: &[Call<A>],
 ) -> CommittedFlags
     requires { length pending.now ≤ 64 }
-    ensures { AreCommitted result.places committed.now pending.now }
+    ensures { AreCommitted result.committed_marks committed.now pending.now }
 {
-    let buckets = Buckets::of(pending);
-    let mut gone = CommittedFlags::new();
+    let buckets = Buckets::of_tickets(pending);
+    let mut committed_flags = CommittedFlags::new();
     for call in committed {
-        mark_committed(&buckets, &mut gone, pending, call);
+        mark_committed(&buckets, &mut committed_flags, pending, call);
     }
-    gone
+    committed_flags
 }
 
 /// Marks the tickets of one committed call.
 fn mark_committed<A: Allocator + Copy>(
     buckets: &Buckets,
-    gone: &mut CommittedFlags,
-    pending: &[Pending<A>],
+    committed_flags: &mut CommittedFlags,
+    pending: &[PendingTicket<A>],
     call: &Call<A>,
 )
     requires few { length pending.now ≤ 64 }
     requires chained { AreChained buckets.now.first buckets.now.next 0 pending.now }
-    ensures { (before : List (OneCall A)) → AreCommitted gone.old.places before pending.now
-        → AreCommitted gone.new.places (before ++ call.now ∷ []) pending.now }
+    ensures { (before : List (OneCall A)) → AreCommitted committed_flags.old.committed_marks before pending.now
+        → AreCommitted committed_flags.new.committed_marks (before ++ call.now ∷ []) pending.now }
 {
     let mut place = buckets.first_of(call);
     while place < pending.len() {
-        gone.take(place, is_same(&pending[place].call, call));
+        committed_flags.mark_if_same(place, is_same_call_by_number(&pending[place].call, call));
         place = buckets.next_of(place);
     }
 }
@@ -267,7 +267,9 @@ fn mark_committed<A: Allocator + Copy>(
 pub fn contains_call<A: Allocator + Copy>(calls: &[Call<A>], call: &Call<A>) -> bool
     ensures { result ≡ contains_call calls.now call.now }
 {
-    calls.iter().any(|other| is_same(call, other))
+    calls
+        .iter()
+        .any(|other| is_same_call_by_number(call, other))
 }
 
 /// Appends the answers to the tickets of a committed call, and marks these tickets.
@@ -275,27 +277,27 @@ pub fn contains_call<A: Allocator + Copy>(calls: &[Call<A>], call: &Call<A>) -> 
 /// Tickets already marked get no answer.
 ///
 /// Errors: `Memory` if an allocation fails.
-fn answer_to<A: Allocator + Copy + Drop>(
+fn append_bucketed_answers<A: Allocator + Copy + Drop>(
     buckets: &Buckets,
-    gone: &mut CommittedFlags,
-    pending: &[Pending<A>],
+    committed_flags: &mut CommittedFlags,
+    pending: &[PendingTicket<A>],
     call: &Call<A>,
     answer: Answer,
     answers: &mut Vec<TicketAnswer<A>, A>,
 ) -> Result<(), Fault>
     requires few { length pending.now ≤ 64 }
     requires chained { AreChained buckets.now.first buckets.now.next 0 pending.now }
-    ensures answers { OnOk result ((before : List (OneCall A)) → AreCommitted gone.old.places before pending.now
+    ensures answers { OnOk result ((before : List (OneCall A)) → AreCommitted committed_flags.old.committed_marks before pending.now
         → answers.new.items ≡ answers.old.items ++ answers_to before call.now answer pending.now) }
-    ensures gone { OnOk result ((before : List (OneCall A)) → AreCommitted gone.old.places before pending.now
-        → AreCommitted gone.new.places (before ++ call.now ∷ []) pending.now) }
+    ensures gone { OnOk result ((before : List (OneCall A)) → AreCommitted committed_flags.old.committed_marks before pending.now
+        → AreCommitted committed_flags.new.committed_marks (before ++ call.now ∷ []) pending.now) }
     ensures refused { IfErr result (λ fault. fault ≡ Memory) }
 {
     let mut place = buckets.first_of(call);
     while place < pending.len() {
-        let asked = &pending[place];
-        if gone.take(place, is_same(&asked.call, call)) {
-            answers.push(answered(asked, answer)?)?;
+        let pending_ticket = &pending[place];
+        if committed_flags.mark_if_same(place, is_same_call_by_number(&pending_ticket.call, call)) {
+            answers.push(answer_for_ticket(pending_ticket, answer)?)?;
         }
         place = buckets.next_of(place);
     }
@@ -307,8 +309,8 @@ fn answer_to<A: Allocator + Copy + Drop>(
 /// It compares each of these tickets with the call. A ticket whose call is in `before` gets no answer.
 ///
 /// Errors: `Memory` if an allocation fails.
-fn answer_without_buckets<A: Allocator + Copy + Drop>(
-    pending: &[Pending<A>],
+fn append_unbucketed_answers<A: Allocator + Copy + Drop>(
+    pending: &[PendingTicket<A>],
     before: &[Call<A>],
     call: &Call<A>,
     answer: Answer,
@@ -317,26 +319,28 @@ fn answer_without_buckets<A: Allocator + Copy + Drop>(
     ensures answers { OnOk result (answers.new.items ≡ answers.old.items ++ answers_to before.now call.now answer pending.now) }
     ensures refused { IfErr result (λ fault. fault ≡ Memory) }
 {
-    for asked in pending {
-        if is_same(&asked.call, call) && !contains_call(before, &asked.call) {
-            answers.push(answered(asked, answer)?)?;
+    for pending_ticket in pending {
+        if is_same_call_by_number(&pending_ticket.call, call)
+            && !contains_call(before, &pending_ticket.call)
+        {
+            answers.push(answer_for_ticket(pending_ticket, answer)?)?;
         }
     }
     Ok(())
 }
 
-/// Returns `answer` as the answer to the ticket `asked`, with a copy of its call.
+/// Returns `answer` as the answer to the ticket `pending_ticket`, with a copy of its call.
 ///
 /// Errors: `AllocError` if an allocation fails.
-fn answered<A: Allocator + Copy + Drop>(
-    asked: &Pending<A>,
+fn answer_for_ticket<A: Allocator + Copy + Drop>(
+    pending_ticket: &PendingTicket<A>,
     answer: Answer,
 ) -> Result<TicketAnswer<A>, AllocError>
-    ensures { IfOk result (λ told. told ≡ record { ticket = asked.now.ticket; call = asked.now.call; answer = answer }) }
+    ensures { IfOk result (λ told. told ≡ record { ticket = pending_ticket.now.ticket; call = pending_ticket.now.call; answer = answer }) }
 {
     Ok(TicketAnswer {
-        ticket: asked.ticket,
-        call: copy_of(&asked.call)?,
+        ticket: pending_ticket.ticket,
+        call: copy_of(&pending_ticket.call)?,
         answer,
     })
 }
@@ -353,11 +357,11 @@ fn answered<A: Allocator + Copy + Drop>(
 pub fn answers_of<O: Object>(
     alloc: O::Alloc,
     sessions: &mut Sessions<O>,
-    pending: &[Pending<O::Alloc>],
+    pending: &[PendingTicket<O::Alloc>],
     committed: &[Call<O::Alloc>],
 ) -> Result<(Vec<TicketAnswer<O::Alloc>, O::Alloc>, u64), Fault>
     ensures table { OnOk result (sessions.new ≡ fold (table_next O.sequential) sessions.old committed.now) }
-    ensures answers { IfOk result (λ given. given.0.items ≡ answers_behind O.sequential sessions.old pending.now [] committed.now) }
+    ensures answers { IfOk result (λ given. given.0.items ≡ answers_after_committed O.sequential sessions.old pending.now [] committed.now) }
     ensures effects { IfOk result (λ given. given.1 ≡ done_after O.sequential sessions.old committed.now) }
     ensures refused { IfErr result (λ fault. fault ≡ Memory) }
 {
@@ -365,7 +369,10 @@ pub fn answers_of<O: Object>(
         return Ok((Vec::new(alloc), 0));
     }
     if pending.is_empty() {
-        return Ok((Vec::new(alloc), apply_all(sessions, committed)?));
+        return Ok((
+            Vec::new(alloc),
+            apply_and_count_effects(sessions, committed)?,
+        ));
     }
     answers_of_pending(alloc, sessions, pending, committed)
 }
@@ -373,7 +380,7 @@ pub fn answers_of<O: Object>(
 /// Applies calls to the sessions, in order, and returns the number of calls that took effect.
 ///
 /// Errors: `Memory` if an allocation fails.
-fn apply_all<O: Object>(
+fn apply_and_count_effects<O: Object>(
     sessions: &mut Sessions<O>,
     committed: &[Call<O::Alloc>],
 ) -> Result<u64, Fault>
@@ -384,7 +391,7 @@ fn apply_all<O: Object>(
     let mut effects = 0;
     for call in committed {
         let answer = sessions.apply(call)?;
-        if is_done(&answer) {
+        if is_done_answer(&answer) {
             effects += 1;
         }
     }
@@ -398,26 +405,33 @@ fn apply_all<O: Object>(
 fn answers_of_pending<O: Object>(
     alloc: O::Alloc,
     sessions: &mut Sessions<O>,
-    pending: &[Pending<O::Alloc>],
+    pending: &[PendingTicket<O::Alloc>],
     committed: &[Call<O::Alloc>],
 ) -> Result<(Vec<TicketAnswer<O::Alloc>, O::Alloc>, u64), Fault>
     ensures table { OnOk result (sessions.new ≡ fold (table_next O.sequential) sessions.old committed.now) }
-    ensures answers { IfOk result (λ given. given.0.items ≡ answers_behind O.sequential sessions.old pending.now [] committed.now) }
+    ensures answers { IfOk result (λ given. given.0.items ≡ answers_after_committed O.sequential sessions.old pending.now [] committed.now) }
     ensures effects { IfOk result (λ given. given.1 ≡ done_after O.sequential sessions.old committed.now) }
     ensures refused { IfErr result (λ fault. fault ≡ Memory) }
 {
-    let (near, beyond) = pending.split_at(pending.len().min(MAX_UNANSWERED));
-    let buckets = Buckets::of(near);
-    let mut gone = CommittedFlags::new();
+    let (bucketed, unbucketed) = pending.split_at(pending.len().min(MAX_UNANSWERED));
+    let buckets = Buckets::of_tickets(bucketed);
+    let mut committed_flags = CommittedFlags::new();
     let mut answers = Vec::new(alloc);
     let mut effects = 0;
     for (place, call) in committed.iter().enumerate() {
         let answer = sessions.apply(call)?;
-        if is_done(&answer) {
+        if is_done_answer(&answer) {
             effects += 1;
         }
-        answer_to(&buckets, &mut gone, near, call, answer, &mut answers)?;
-        answer_without_buckets(beyond, &committed[..place], call, answer, &mut answers)?;
+        append_bucketed_answers(
+            &buckets,
+            &mut committed_flags,
+            bucketed,
+            call,
+            answer,
+            &mut answers,
+        )?;
+        append_unbucketed_answers(unbucketed, &committed[..place], call, answer, &mut answers)?;
     }
     Ok((answers, effects))
 }

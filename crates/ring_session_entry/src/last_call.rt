@@ -47,7 +47,7 @@ impl<A: Allocator + Copy> LastCall<A> {
     /// It has the number 0, an empty operation and an empty reply. Does not allocate.
     ///
     /// Rules: Sessions 2
-    pub fn none(alloc: A) -> LastCall<A>
+    pub fn before_first_call(alloc: A) -> LastCall<A>
         ensures { result ≡ no_call }
     {
         LastCall {
@@ -64,7 +64,12 @@ impl<A: Allocator + Copy> LastCall<A> {
     /// Errors: `Memory` if an allocation fails.
     ///
     /// Rules: Sessions 2
-    pub fn of(alloc: A, number: u64, operation: &[u8], reply: &[u8]) -> Result<LastCall<A>, Fault>
+    pub fn from_parts(
+        alloc: A,
+        number: u64,
+        operation: &[u8],
+        reply: &[u8],
+    ) -> Result<LastCall<A>, Fault>
         requires { length reply.now ≤ 64 }
         ensures ok { IfOk result (λ last. last
             ≡ record { number = number; operation = operation.now; reply = reply.now }) }
@@ -111,7 +116,7 @@ impl<A: Allocator + Copy> LastCall<A> {
     /// No number is next after 2^64 - 1.
     ///
     /// Rules: Sessions 3
-    pub fn is_next(&self, number: u64) -> bool
+    pub fn is_next_number(&self, number: u64) -> bool
         ensures { result ≡ (number == self.now.number + 1) }
     {
         self.number.checked_add(1) == Some(number)

@@ -45,7 +45,7 @@ fn answered(heap: &RefusingHeap, ample: &RefusingHeap, work: Work) -> Result<(),
         ),
         Work::Tickets => has_ended(heap, answer_three::<Counters<&RefusingHeap>>(heap)),
     };
-    heap.answer(is_right)
+    heap.expected_result(is_right)
 }
 
 /// The number of requests for memory that the work makes when each is refused once.

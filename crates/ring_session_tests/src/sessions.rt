@@ -5,7 +5,7 @@ use ring_base::Fault;
 use ring_object::{Object, Reply};
 use ring_payload::Call;
 use ring_session::{Answer, Sessions};
-use ring_things::{Names, Outcome, reply};
+use ring_things::{Names, Outcome, outcome_reply};
 
 /// The number of refusals, 0 or 1, of the call with this reply. A refused call is tried again, and its answer shows that
 /// table and object were unchanged. `Conflict` for any other answer.
@@ -35,7 +35,7 @@ fn refused_at<O: Object>(
     let (client, number) = (u32::from(step % 16), u64::from(step / 16) + 1);
     let insert = Names::insert(&[step])?;
     let call = Call::new(ample, client, number, insert.as_slice())?;
-    refused_of(sessions, &call, reply(Outcome::Done))
+    refused_of(sessions, &call, outcome_reply(Outcome::Done))
 }
 
 /// `before` plus the refusals of two calls of each of 16 clients, enough for a table of several nodes.

@@ -5,7 +5,7 @@
 use crate::hex_text::is_hex_of;
 use ring_base::Fault;
 use ring_object::{Object, ShortBytes};
-use ring_things::{Counters, Names, Queue, Registers, ShelfPlace, StandardObjects};
+use ring_things::{Counters, Names, Queue, Registers, ShelfPosition, StandardObjects};
 use std::alloc::Global;
 use std::process::Abort;
 use std::test::Fail;
@@ -230,11 +230,17 @@ fn operations_are_encoded(rt: HostRuntime) -> Result<(), Fail> {
     ];
     assert_encoding(&rt, rt.alloc(), &table);
     let on_a_shelf = [
-        (ShelfPlace::First.operation(&Registers::get(255)), "0001ff"),
-        (ShelfPlace::Second.operation(&Counters::read(0)), "010200"),
-        (ShelfPlace::Third.operation(&Queue::length()), "0203"),
         (
-            ShelfPlace::Fourth.operation(&Names::insert(b"a")?),
+            ShelfPosition::First.operation(&Registers::get(255)),
+            "0001ff",
+        ),
+        (
+            ShelfPosition::Second.operation(&Counters::read(0)),
+            "010200",
+        ),
+        (ShelfPosition::Third.operation(&Queue::length()), "0203"),
+        (
+            ShelfPosition::Fourth.operation(&Names::insert(b"a")?),
             "030161",
         ),
     ];
@@ -276,9 +282,9 @@ fn only_snapshots_are_restored(rt: HostRuntime) {
 fn change_and_restore<O: Object>(alloc: O::Alloc, things: &mut O) -> Result<(), Fault> {
     for i in 0..20u8 {
         let operations = [
-            ShelfPlace::Second.operation(&Counters::add(i, 1)),
-            ShelfPlace::Third.operation(&Queue::push(u64::from(i))),
-            ShelfPlace::Fourth.operation(&Names::insert(&[i])?),
+            ShelfPosition::Second.operation(&Counters::add(i, 1)),
+            ShelfPosition::Third.operation(&Queue::push(u64::from(i))),
+            ShelfPosition::Fourth.operation(&Names::insert(&[i])?),
         ];
         for operation in &operations {
             things.apply(operation.as_slice())?;

@@ -4,7 +4,7 @@
 use ring_base::Fault;
 use ring_object::Object;
 use ring_payload::Call;
-use ring_session::{Pending, Sessions, Ticket, Tickets, answers_of};
+use ring_session::{PendingTicket, Sessions, Ticket, Tickets, answers_of};
 use ring_things::Counters;
 use std::alloc::Allocator;
 
@@ -25,24 +25,24 @@ fn calls<A: Allocator + Copy>(alloc: A, numbers: &[u64]) -> Result<Vec<Call<A>, 
 fn push_66<A: Allocator + Copy + Drop>(
     alloc: A,
     tickets: &mut Tickets<A>,
-    pending: &mut Vec<Pending<A>, A>,
+    pending: &mut Vec<PendingTicket<A>, A>,
 ) -> Result<(), Fault> {
     for number in 1..65 {
         tickets.check()?;
         let call = call(alloc, number)?;
-        tickets.give(call);
+        tickets.give_ticket(call);
     }
     pending.extend_from_slice(tickets.pending())?;
     for number in 65..67 {
         let call = call(alloc, number)?;
         let ticket = Ticket::new(number);
-        pending.push(Pending { ticket, call })?;
+        pending.push(PendingTicket { ticket, call })?;
     }
     Ok(())
 }
 
 /// `push_66` for a new node.
-fn pending<A: Allocator + Copy + Drop>(alloc: A) -> Result<Vec<Pending<A>, A>, Fault> {
+fn pending<A: Allocator + Copy + Drop>(alloc: A) -> Result<Vec<PendingTicket<A>, A>, Fault> {
     let mut tickets = Tickets::new(alloc)?;
     let mut pending = Vec::new(alloc);
     push_66(alloc, &mut tickets, &mut pending)?;
@@ -53,7 +53,7 @@ fn pending<A: Allocator + Copy + Drop>(alloc: A) -> Result<Vec<Pending<A>, A>, F
 fn ticket_outcomes<O: Object>(
     alloc: O::Alloc,
     sessions: &mut Sessions<O>,
-    pending: &[Pending<O::Alloc>],
+    pending: &[PendingTicket<O::Alloc>],
     calls: &[Call<O::Alloc>],
 ) -> Result<(usize, Option<u64>, u64), Fault> {
     let (answers, effects) = answers_of(alloc, sessions, pending, calls)?;
@@ -67,7 +67,7 @@ fn ticket_outcomes<O: Object>(
 /// `ticket_outcomes` for these tickets and new sessions, as four calls are committed.
 fn outcomes_of_four<O: Object>(
     alloc: O::Alloc,
-    pending: &[Pending<O::Alloc>],
+    pending: &[PendingTicket<O::Alloc>],
 ) -> Result<(usize, Option<u64>, u64), Fault> {
     let calls = calls(alloc, &[66, 1, 66, 64])?;
     let mut sessions = Sessions::<O>::new(alloc)?;

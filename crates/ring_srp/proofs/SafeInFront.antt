@@ -8,42 +8,42 @@ use Rattle.ring_base.specs.Rings.{same_ring}
 use Rattle.ring_base.specs.Numbers.{greatest}
 use Rattle.ring_base.specs.declared.ring_id.RingId.{RingId}
 use Rattle.ring_wire.specs.declared.commit.CommitToken.{CommitToken}
-use Rattle.ring_core_spec.specs.Tokens.{TokenVisit, Raise, turns_of, mark_by, raised_to, safe_mark, last_aru}
+use Rattle.ring_core_spec.specs.Tokens.{TokenVisit, MarkRaise, visits_in_ring, mark_from_arus, raised_to, safe_mark, last_aru}
 use Rattle.ring_core_spec.specs.Commits.{reports_of, safe_of, is_sound, position_of_hop, is_own, Configuration}
 use Rattle.ring_core_spec.specs.State.{Core}
 use Rattle.ring_core_spec.specs.Views.{front, mark, own_entry}
 use Rattle.ring_core_spec.specs.Visiting.{turn_of}
 use Rattle.ring_core_spec.specs.Joining.{proposes}
-use Rattle.ring_core_spec.specs.Handing.{takes_second_round}
+use Rattle.ring_core_spec.specs.CommitSteps.{takes_second_round}
 use Rattle.ring_core_spec.specs.Deciding.{Transition, Ignore, Enqueue, Repeat, Announce, Invite, GiveUp, EnterGather, Agree, MergeJoin}
 use Rattle.ring_core_spec.specs.Deciding.{EnterGatherAndAgree, EnterGatherAndMergeJoin, Take, Visit, Fill, Learn}
-use Rattle.ring_core_spec.specs.Transitions.{apply_transition, may_propose_after, done}
-use Rattle.ring_srp_transitions.specs.Allowing.{Allows}
+use Rattle.ring_core_spec.specs.Transitions.{apply_transition, may_propose_after, transition_and_proposal}
+use Rattle.ring_srp_transitions.specs.Allowing.{MayApply}
 use Rattle.ring_core_spec.proofs.InstalledKept.{done_installed, proposed_marks}
 use Rattle.ring_core_spec.proofs.Commits.{none_behind-at, own_stands}
 
 -- A visit: its mark is the lesser of two numbers, of which the earlier was at most the front
 
-newest_mark : {A : Type 0} (a : ℕ) (turns : List (TokenVisit A)) (raised f : ℕ) → max (mark_by (map (λ (v : TokenVisit A). v.forwarded.aru) turns)) raised ≤ f
-    → last_aru turns ≤ f → max (mark_by (a ∷ map (λ (v : TokenVisit A). v.forwarded.aru) turns)) raised ≤ f
+newest_mark : {A : Type 0} (a : ℕ) (turns : List (TokenVisit A)) (raised f : ℕ) → max (mark_from_arus (map (λ (v : TokenVisit A). v.forwarded.aru) turns)) raised ≤ f
+    → last_aru turns ≤ f → max (mark_from_arus (a ∷ map (λ (v : TokenVisit A). v.forwarded.aru) turns)) raised ≤ f
 newest_mark a [] raised f h l = omega arith
 newest_mark a (v ∷ turns) raised f h l = omega arith
 
-turn_mark : {A : Type 0} (v : TokenVisit A) (turns : List (TokenVisit A)) (raises : List Raise) (ring : RingId) (f : ℕ) → safe_mark turns raises ring ≤ f
-    → last_aru (turns_of ring turns) ≤ f → safe_mark (v ∷ turns) raises ring ≤ f
+turn_mark : {A : Type 0} (v : TokenVisit A) (turns : List (TokenVisit A)) (raises : List MarkRaise) (ring : RingId) (f : ℕ) → safe_mark turns raises ring ≤ f
+    → last_aru (visits_in_ring ring turns) ≤ f → safe_mark (v ∷ turns) raises ring ≤ f
 turn_mark {A} v turns raises ring f h l =
-    cond_both (same_ring v.received.ring ring) (v ∷ turns_of ring turns) (turns_of ring turns)
-    (λ (vs : List (TokenVisit A)). max (mark_by (map (λ (v : TokenVisit A). v.forwarded.aru) vs)) (raised_to ring raises) ≤ f)
-    (λ e. newest_mark v.forwarded.aru (turns_of ring turns) (raised_to ring raises) f h l)
+    cond_both (same_ring v.received.ring ring) (v ∷ visits_in_ring ring turns) (visits_in_ring ring turns)
+    (λ (vs : List (TokenVisit A)). max (mark_from_arus (map (λ (v : TokenVisit A). v.forwarded.aru) vs)) (raised_to ring raises) ≤ f)
+    (λ e. newest_mark v.forwarded.aru (visits_in_ring ring turns) (raised_to ring raises) f h l)
     (λ e. h)
 
 -- A raise: the core's own front has reached its mark
 
-raise_mark : {A : Type 0} (x : Raise) (turns : List (TokenVisit A)) (raises : List Raise) (ring : RingId) (f : ℕ) → safe_mark turns raises ring ≤ f → x.mark ≤ f
+raise_mark : {A : Type 0} (x : MarkRaise) (turns : List (TokenVisit A)) (raises : List MarkRaise) (ring : RingId) (f : ℕ) → safe_mark turns raises ring ≤ f → x.mark ≤ f
     → safe_mark turns (x ∷ raises) ring ≤ f
 raise_mark {A} x turns raises ring f h l =
-    cond_both (same_ring x.ring ring) (x ∷ filter (λ (x : Raise). same_ring x.ring ring) raises) (filter (λ (x : Raise). same_ring x.ring ring) raises)
-    (λ (xs : List Raise). max (mark_by (map (λ (v : TokenVisit A). v.forwarded.aru) (turns_of ring turns))) (greatest (map (λ (x : Raise). x.mark) xs)) ≤ f)
+    cond_both (same_ring x.ring ring) (x ∷ filter (λ (x : MarkRaise). same_ring x.ring ring) raises) (filter (λ (x : MarkRaise). same_ring x.ring ring) raises)
+    (λ (xs : List MarkRaise). max (mark_from_arus (map (λ (v : TokenVisit A). v.forwarded.aru) (visits_in_ring ring turns))) (greatest (map (λ (x : MarkRaise). x.mark) xs)) ≤ f)
     (λ e. omega arith)
     (λ e. h)
 
@@ -63,8 +63,8 @@ learned_front c k h =
 
 -- Each transition
 
-acted_mark : {A : Type 0} (c : Core A) (a : Transition A) → Allows c a → mark c c.installed.ring ≤ front c c.installed.ring
-    → last_aru (turns_of c.installed.ring c.turns) ≤ front c c.installed.ring → mark (apply_transition c a).core c.installed.ring ≤ front c c.installed.ring
+acted_mark : {A : Type 0} (c : Core A) (a : Transition A) → MayApply c a → mark c c.installed.ring ≤ front c c.installed.ring
+    → last_aru (visits_in_ring c.installed.ring c.turns) ≤ front c c.installed.ring → mark (apply_transition c a).core c.installed.ring ≤ front c c.installed.ring
 acted_mark c Ignore m h l = h
 acted_mark c (Enqueue payload) m h l = h
 acted_mark c Repeat m h l = h
@@ -85,19 +85,19 @@ acted_mark c (Learn k) m h l = raise_mark
 
 -- nor does the proposal after it, which raises no mark
 
-done_mark : {A : Type 0} (c : Core A) (a : Transition A) → Allows c a → mark c c.installed.ring ≤ front c c.installed.ring
-    → last_aru (turns_of c.installed.ring c.turns) ≤ front c c.installed.ring → mark (done c a).core (done c a).core.installed.ring ≤ front c c.installed.ring
+done_mark : {A : Type 0} (c : Core A) (a : Transition A) → MayApply c a → mark c c.installed.ring ≤ front c c.installed.ring
+    → last_aru (visits_in_ring c.installed.ring c.turns) ≤ front c c.installed.ring → mark (transition_and_proposal c a).core (transition_and_proposal c a).core.installed.ring ≤ front c c.installed.ring
 done_mark c a m h l =
-    let e : mark (done c a).core (done c a).core.installed.ring ≡ mark (apply_transition c a).core c.installed.ring =
-    ap (λ (x : Configuration). mark (done c a).core x.ring) (done_installed c a)
+    let e : mark (transition_and_proposal c a).core (transition_and_proposal c a).core.installed.ring ≡ mark (apply_transition c a).core c.installed.ring =
+    ap (λ (x : Configuration). mark (transition_and_proposal c a).core x.ring) (done_installed c a)
     ∙ proposed_marks (may_propose_after a && proposes (apply_transition c a).core) (apply_transition c a) c.installed.ring in
     subst (λ n. n ≤ front c c.installed.ring) (sym e) (acted_mark c a m h l)
 
 -- the same for the code's result
-pub may_give : {A : Type 0} (c new : Core A) (a : Transition A) (reached : ℕ) → Allows c a → new ≡ (done c a).core
-    → reached ≡ front c c.installed.ring → mark c c.installed.ring ≤ reached → last_aru (turns_of c.installed.ring c.turns) ≤ reached
+pub may_give : {A : Type 0} (c new : Core A) (a : Transition A) (reached : ℕ) → MayApply c a → new ≡ (transition_and_proposal c a).core
+    → reached ≡ front c c.installed.ring → mark c c.installed.ring ≤ reached → last_aru (visits_in_ring c.installed.ring c.turns) ≤ reached
     → mark new new.installed.ring ≤ reached
 may_give {A} c new a reached allows e r safe led =
-    let bound : mark (done c a).core (done c a).core.installed.ring ≤ front c c.installed.ring =
+    let bound : mark (transition_and_proposal c a).core (transition_and_proposal c a).core.installed.ring ≤ front c c.installed.ring =
     done_mark c a allows (omega (arith, safe, r)) (omega (arith, led, r)) in
     rw (e, r) bound

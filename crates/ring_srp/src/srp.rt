@@ -7,7 +7,7 @@
 ghost use Rattle.std.specs.Prelude.{◌≡◌, ◌≤◌, false, [], None, Ok, Err, if◌then◌else◌, IfOk, IfErr, OnOk, OnErr};
 ghost use Rattle.ring_base.specs.declared.fault.Fault.TheVariants.{Memory, Stopped as StoppedFault};
 ghost use Rattle.ring_core_spec.specs.Giving.{may_install, sent};
-ghost use Rattle.ring_core_spec.specs.State.{all_of, opening, formed, halted, is_stopped};
+ghost use Rattle.ring_core_spec.specs.State.{formed_ring_of, opening, formed, halted, is_stopped};
 ghost use Rattle.ring_core_spec.specs.Stepping.{ring_step};
 ghost use Rattle.ring_core_spec.specs.Visiting.{token_visited};
 ghost use Rattle.ring_core_spec.specs.declared.input.Input.TheVariants.{Frame as FrameInput, Timeout as TimeoutInput, Send as SendInput};
@@ -16,7 +16,9 @@ ghost use Rattle.ring_srp_transitions.specs.Allowing.{InputFits};
 ghost use Rattle.ring_core_spec.specs.Tokens.{first_token};
 ghost use Rattle.ring_srp.specs.Given.{IsGiven};
 
-use crate::stepping::{receive, send, step, step_into_one_list, visit_first};
+use crate::stepping::{
+    enqueue_if_operational, receive, step, step_into_one_list, visit_first_token,
+};
 use ring_base::{Fault, Fixed, Ghost, Kind, Proc, RingId, State, ghost_now, pair_result};
 use ring_core_spec::{Configuration, Input, Out, OutgoingFrame};
 use ring_payload::Payload;
@@ -35,9 +37,9 @@ pub struct Srp<A: Allocator + Copy = Global> {
     /// The running core, `None` after a stop.
     running_core: Option<RunningCore<A>>,
     /// The last installed ring at the time of the stop.
-    last: Configuration,
+    last_installed: Configuration,
     /// The core at the time of the stop, for contracts.
-    before: Ghost<RunningCore<A>>,
+    core_at_stop: Ghost<RunningCore<A>>,
 }
 
 impl<A: Allocator + Copy> Model for Srp<A> {
@@ -46,9 +48,9 @@ impl<A: Allocator + Copy> Model for Srp<A> {
 
     ghost Value = { OneCore A };
 
-    ghost view = { λ s. running_or s.running_core s.before.value };
+    ghost view = { λ s. running_or s.running_core s.core_at_stop.value };
 
-    ghost invariant = { λ s. IsEnded s.running_core s.before.value s.last };
+    ghost invariant = { λ s. IsEnded s.running_core s.core_at_stop.value s.last_installed };
 }
 
 impl<A: Allocator + Copy> Srp<A> {
@@ -66,7 +68,7 @@ impl<A: Allocator + Copy> Srp<A> {
         ensures refused { IfErr result (λ fault. fault ≡ Memory) }
     {
         let running_core = RunningCore::new(alloc, fixed, me)?;
-        Ok(running(running_core))
+        Ok(from_running_core(running_core))
     }
 
     /// Creates the ring core of processor `me` in the formed ring (1, 1) of all processors.
@@ -82,7 +84,7 @@ impl<A: Allocator + Copy> Srp<A> {
         ensures refused { IfErr result (λ fault. fault ≡ Memory) }
     {
         let running_core = RunningCore::formed(alloc, fixed, me)?;
-        Ok(running(running_core))
+        Ok(from_running_core(running_core))
     }
 
     /// Creates the ring core of processor 1, the representative of the formed ring (1, 1), after its visit of the first
@@ -95,13 +97,13 @@ impl<A: Allocator + Copy> Srp<A> {
     ///
     /// Rules: Rings and states 14; The commit token 7
     pub fn representative_started(alloc: A, fixed: Fixed) -> Result<(Srp<A>, Vec<Out<A>, A>), Fault>
-        ensures core { IfOk result (λ representative_started. representative_started.0 ≡ (token_visited (formed fixed.count 1) (first_token (all_of fixed.count).ring)).core) }
-        ensures outs { IfOk result (λ representative_started. representative_started.1.items ≡ sent (token_visited (formed fixed.count 1) (first_token (all_of fixed.count).ring)).sends) }
+        ensures core { IfOk result (λ representative_started. representative_started.0 ≡ (token_visited (formed fixed.count 1) (first_token (formed_ring_of fixed.count).ring)).core) }
+        ensures outs { IfOk result (λ representative_started. representative_started.1.items ≡ sent (token_visited (formed fixed.count 1) (first_token (formed_ring_of fixed.count).ring)).sends) }
         ensures refused { IfErr result (λ fault. fault ≡ Memory) }
     {
         let running_core = RunningCore::formed(alloc, fixed, Proc::new(1))?;
         let (running_core, outs) = start_representative(running_core, fixed)?;
-        Ok((running(running_core), outs))
+        Ok((from_running_core(running_core), outs))
     }
 
     /// Runs one step on any input, and returns all its outputs in one list, in their order.
@@ -129,8 +131,8 @@ impl<A: Allocator + Copy> Srp<A> {
             Ok(outs) => Ok(outs),
             Err(refused) => {
                 drop_value(&mut self.running_core);
-                self.last = last;
-                self.before = before;
+                self.last_installed = last;
+                self.core_at_stop = before;
                 Err(refused)
             }
         }
@@ -170,8 +172,8 @@ impl<A: Allocator + Copy> Srp<A> {
             Ok(told) => Ok(told),
             Err(refused) => {
                 drop_value(&mut self.running_core);
-                self.last = last;
-                self.before = before;
+                self.last_installed = last;
+                self.core_at_stop = before;
                 Err(refused)
             }
         }
@@ -207,8 +209,8 @@ impl<A: Allocator + Copy> Srp<A> {
             Ok(told) => Ok(told),
             Err(refused) => {
                 drop_value(&mut self.running_core);
-                self.last = last;
-                self.before = before;
+                self.last_installed = last;
+                self.core_at_stop = before;
                 Err(refused)
             }
         }
@@ -233,7 +235,7 @@ impl<A: Allocator + Copy> Srp<A> {
         let Some(running_core) = &mut self.running_core else {
             return Err(Fault::Stopped);
         };
-        send(running_core, payload)
+        enqueue_if_operational(running_core, payload)
     }
 
     /// Stops the core for good and frees the memory that it holds.
@@ -248,8 +250,8 @@ impl<A: Allocator + Copy> Srp<A> {
             let last = running_core.installed();
             let before = ghost_now(running_core);
             drop_value(&mut self.running_core);
-            self.last = last;
-            self.before = before;
+            self.last_installed = last;
+            self.core_at_stop = before;
         }
     }
 
@@ -276,7 +278,7 @@ impl<A: Allocator + Copy> Srp<A> {
     {
         match &self.running_core {
             Some(running_core) => running_core.installed(),
-            None => self.last,
+            None => self.last_installed,
         }
     }
 
@@ -303,15 +305,15 @@ impl<A: Allocator + Copy> Clone for Srp<A> {
 
     fn clone(&self) -> Result<Srp<A>, AllocError> {
         Ok(Srp {
-            last: self.last,
-            before: self.before.clone()?,
+            last_installed: self.last_installed,
+            core_at_stop: self.core_at_stop.clone()?,
             running_core: copied_running_core(&self.running_core)?,
         })
     }
 }
 
 /// Returns the ring core with this running core, in which no installation may be due.
-fn running<A: Allocator + Copy>(running_core: RunningCore<A>) -> Srp<A>
+fn from_running_core<A: Allocator + Copy>(running_core: RunningCore<A>) -> Srp<A>
     requires { may_install running_core ≡ false }
     ensures { result ≡ running_core }
 {
@@ -319,8 +321,8 @@ fn running<A: Allocator + Copy>(running_core: RunningCore<A>) -> Srp<A>
     let before = ghost_now(&running_core);
     Srp {
         running_core: Some(running_core),
-        last,
-        before,
+        last_installed: last,
+        core_at_stop: before,
     }
 }
 
@@ -330,11 +332,11 @@ fn start_representative<A: Allocator + Copy>(
     fixed: Fixed,
 ) -> Result<(RunningCore<A>, Vec<Out<A>, A>), Fault>
     requires { running_core ≡ formed fixed.count 1 }
-    ensures core { IfOk result (λ start_representative. start_representative.0 ≡ (token_visited (formed fixed.count 1) (first_token (all_of fixed.count).ring)).core) }
-    ensures outs { IfOk result (λ start_representative. start_representative.1.items ≡ sent (token_visited (formed fixed.count 1) (first_token (all_of fixed.count).ring)).sends) }
+    ensures core { IfOk result (λ start_representative. start_representative.0 ≡ (token_visited (formed fixed.count 1) (first_token (formed_ring_of fixed.count).ring)).core) }
+    ensures outs { IfOk result (λ start_representative. start_representative.1.items ≡ sent (token_visited (formed fixed.count 1) (first_token (formed_ring_of fixed.count).ring)).sends) }
     ensures refused { IfErr result (λ fault. fault ≡ Memory) }
 {
-    let outs = visit_first(&mut running_core, fixed);
+    let outs = visit_first_token(&mut running_core, fixed);
     pair_result(running_core, outs)
 }
 

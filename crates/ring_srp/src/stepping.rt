@@ -8,14 +8,14 @@
 ghost use Rattle.std.specs.Prelude.{◌≡◌, ◌≤◌, ◌++◌, [], true, false, map, IfOk, IfErr, OnOk, OnErr};
 ghost use Rattle.ring_base.specs.declared.fault.Fault.TheVariants.{Memory};
 ghost use Rattle.ring_wire.specs.Frames.{FrameFits};
-ghost use Rattle.ring_core_spec.specs.Transitions.{apply_transition, may_propose_after, done};
+ghost use Rattle.ring_core_spec.specs.Transitions.{apply_transition, may_propose_after, transition_and_proposal};
 ghost use Rattle.ring_core_spec.specs.Deciding.{Take as TakeAct, Visit as VisitAct, is_taken};
-ghost use Rattle.ring_core_spec.specs.Giving.{addressed, may_install, sent, settle, delivered, delivered_from};
+ghost use Rattle.ring_core_spec.specs.Giving.{sends_with_receivers, may_install, sent, with_installation_if, step_result, delivered_from};
 ghost use Rattle.ring_core_spec.specs.Stepping.{ring_step};
 ghost use Rattle.ring_core_spec.specs.declared.input.Input.TheVariants.{Frame as FrameInput, Send as SendInput};
 ghost use Rattle.ring_srp_transitions.specs.CodeTransitions.{transition_of};
-ghost use Rattle.ring_srp_transitions.specs.Allowing.{Allows, InputFits, VisitAllowed};
-ghost use Rattle.ring_core_spec.specs.State.{all_of, formed, is_stopped, OutgoingFrame as ToldSent};
+ghost use Rattle.ring_srp_transitions.specs.Allowing.{MayApply, InputFits, VisitAllowed};
+ghost use Rattle.ring_core_spec.specs.State.{formed_ring_of, formed, is_stopped, OutgoingFrame as ToldSent};
 ghost use Rattle.ring_core_spec.specs.Tokens.{first_token};
 ghost use Rattle.ring_core_spec.specs.Visiting.{token_visited};
 ghost use Rattle.ring_core_spec.specs.Views.{mark};
@@ -25,7 +25,9 @@ ghost use Rattle.ring_srp.specs.Given.{IsGiven};
 use ring_base::{Fault, Fixed, State};
 use ring_core_spec::{Input, Out, OutgoingFrame};
 use ring_payload::Payload;
-use ring_srp_transitions::{RingProgress, RunningCore, Transition, all_of, first_token, is_queued};
+use ring_srp_transitions::{
+    RingProgress, RunningCore, Transition, first_token, formed_ring, is_queued,
+};
 use ring_wire::{Frame, Message, Token};
 use std::alloc::Allocator;
 
@@ -49,11 +51,11 @@ pub(crate) fn step<A: Allocator + Copy>(
     ensures running { is_stopped running_core.old.state ≡ false }
     ensures refused { IfErr result (λ fault. fault ≡ Memory) }
 {
-    let before = running_core.reached();
-    let what = running_core.decide(input);
-    apply_and_propose(running_core, what, sends)?;
-    let told = running_core.list();
-    give_outputs(running_core, before, told)
+    let before = running_core.ring_progress();
+    let chosen_transition = running_core.decide(input);
+    apply_and_propose(running_core, chosen_transition, sends)?;
+    let other_outputs = running_core.empty_list();
+    give_outputs(running_core, before, other_outputs)
 }
 
 /// Runs one step on an input, and returns all its outputs in one list, in their order.
@@ -73,9 +75,9 @@ pub(crate) fn step_into_one_list<A: Allocator + Copy>(
     ensures running { is_stopped running_core.old.state ≡ false }
     ensures refused { IfErr result (λ fault. fault ≡ Memory) }
 {
-    let mut sends = running_core.list();
-    let told = step(running_core, input, &mut sends)?;
-    join_outputs(sends, told)
+    let mut sends = running_core.empty_list();
+    let other_outputs = step(running_core, input, &mut sends)?;
+    join_outputs(sends, other_outputs)
 }
 
 /// Runs one step on a borrowed frame.
@@ -98,14 +100,14 @@ pub(crate) fn receive<A: Allocator + Copy>(
     ensures running { OnOk result (is_stopped running_core.old.state ≡ false) }
     ensures refused { IfErr result (λ fault. fault ≡ Memory) }
 {
-    match running_core.visited_by(frame) {
+    match running_core.token_to_visit(frame) {
         Some(token) => step_with_token(running_core, token, sends),
-        None => receive_other(running_core, frame, sends),
+        None => step_with_other_frame(running_core, frame, sends),
     }
 }
 
 /// Runs one step on a frame whose transition isn't `Visit`.
-fn receive_other<A: Allocator + Copy>(
+fn step_with_other_frame<A: Allocator + Copy>(
     running_core: &mut RunningCore<A>,
     frame: &Frame<A>,
     sends: &mut Vec<OutgoingFrame<A>, A>,
@@ -117,7 +119,7 @@ fn receive_other<A: Allocator + Copy>(
     ensures running { OnOk result (is_stopped running_core.old.state ≡ false) }
     ensures refused { IfErr result (λ fault. fault ≡ Memory) }
 {
-    match running_core.taken_by(frame) {
+    match running_core.message_to_take(frame) {
         Some(message) => step_with_message_copy(running_core, message, sends),
         None => step_with_frame_copy(running_core, frame, sends),
     }
@@ -132,8 +134,8 @@ fn step_with_message_copy<A: Allocator + Copy>(
 ) -> Result<Vec<Out<A>, A>, Fault>
     requires taken { is_taken running_core.old message.now ≡ true }
     requires empty { sends.old.items ≡ [] }
-    ensures given { IfOk result (λ told. IsGiven (delivered running_core.old (done running_core.old (TakeAct message.now))).outs sends.new.items told.items) }
-    ensures core { OnOk result (running_core.new ≡ (delivered running_core.old (done running_core.old (TakeAct message.now))).core) }
+    ensures given { IfOk result (λ told. IsGiven (step_result running_core.old (transition_and_proposal running_core.old (TakeAct message.now))).outs sends.new.items told.items) }
+    ensures core { OnOk result (running_core.new ≡ (step_result running_core.old (transition_and_proposal running_core.old (TakeAct message.now))).core) }
     ensures running { OnOk result (is_stopped running_core.old.state ≡ false) }
     ensures refused { IfErr result (λ fault. fault ≡ Memory) }
 {
@@ -149,15 +151,15 @@ fn step_with_message<A: Allocator + Copy>(
 ) -> Result<Vec<Out<A>, A>, Fault>
     requires taken { is_taken running_core.old message ≡ true }
     requires empty { sends.old.items ≡ [] }
-    ensures given { IfOk result (λ told. IsGiven (delivered running_core.old (done running_core.old (TakeAct message))).outs sends.new.items told.items) }
-    ensures core { OnOk result (running_core.new ≡ (delivered running_core.old (done running_core.old (TakeAct message))).core) }
+    ensures given { IfOk result (λ told. IsGiven (step_result running_core.old (transition_and_proposal running_core.old (TakeAct message))).outs sends.new.items told.items) }
+    ensures core { OnOk result (running_core.new ≡ (step_result running_core.old (transition_and_proposal running_core.old (TakeAct message))).core) }
     ensures running { is_stopped running_core.old.state ≡ false }
     ensures refused { IfErr result (λ fault. fault ≡ Memory) }
 {
-    let before = running_core.reached();
+    let before = running_core.ring_progress();
     take_and_propose(running_core, message, sends)?;
-    let told = running_core.list();
-    give_outputs(running_core, before, told)
+    let other_outputs = running_core.empty_list();
+    give_outputs(running_core, before, other_outputs)
 }
 
 /// Takes a message, and then proposes a ring if one is due.
@@ -167,8 +169,8 @@ fn take_and_propose<A: Allocator + Copy>(
     sends: &mut Vec<OutgoingFrame<A>, A>,
 ) -> Result<(), Fault>
     requires { is_taken running_core.old message ≡ true }
-    ensures core { OnOk result (running_core.new ≡ (done running_core.old (TakeAct message)).core) }
-    ensures sends { OnOk result (sends.new.items ≡ sends.old.items ++ addressed (done running_core.old (TakeAct message)).sends) }
+    ensures core { OnOk result (running_core.new ≡ (transition_and_proposal running_core.old (TakeAct message)).core) }
+    ensures sends { OnOk result (sends.new.items ≡ sends.old.items ++ sends_with_receivers (transition_and_proposal running_core.old (TakeAct message)).sends) }
     ensures refused { IfErr result (λ fault. fault ≡ Memory) }
 {
     running_core.take(message)?;
@@ -189,7 +191,7 @@ fn step_with_frame_copy<A: Allocator + Copy>(
     ensures running { OnOk result (is_stopped running_core.old.state ≡ false) }
     ensures refused { IfErr result (λ fault. fault ≡ Memory) }
 {
-    let copy = copied(frame)?;
+    let copy = copied_frame(frame)?;
     step(running_core, Input::Frame(copy), sends)
 }
 
@@ -201,15 +203,15 @@ fn step_with_token<A: Allocator + Copy>(
 ) -> Result<Vec<Out<A>, A>, Fault>
     requires allowed { VisitAllowed running_core.old token.now }
     requires empty { sends.old.items ≡ [] }
-    ensures given { IfOk result (λ told. IsGiven (delivered running_core.old (done running_core.old (VisitAct token.now))).outs sends.new.items told.items) }
-    ensures core { OnOk result (running_core.new ≡ (delivered running_core.old (done running_core.old (VisitAct token.now))).core) }
+    ensures given { IfOk result (λ told. IsGiven (step_result running_core.old (transition_and_proposal running_core.old (VisitAct token.now))).outs sends.new.items told.items) }
+    ensures core { OnOk result (running_core.new ≡ (step_result running_core.old (transition_and_proposal running_core.old (VisitAct token.now))).core) }
     ensures running { is_stopped running_core.old.state ≡ false }
     ensures refused { IfErr result (λ fault. fault ≡ Memory) }
 {
-    let told = running_core.visit_output_buffer()?;
-    let before = running_core.reached();
+    let other_outputs = running_core.visit_output_buffer()?;
+    let before = running_core.ring_progress();
     visit_and_propose(running_core, token, sends)?;
-    give_outputs(running_core, before, told)
+    give_outputs(running_core, before, other_outputs)
 }
 
 /// Visits a token, and then proposes a ring if one is due.
@@ -219,8 +221,8 @@ fn visit_and_propose<A: Allocator + Copy>(
     sends: &mut Vec<OutgoingFrame<A>, A>,
 ) -> Result<(), Fault>
     requires { VisitAllowed running_core.old token.now }
-    ensures core { OnOk result (running_core.new ≡ (done running_core.old (VisitAct token.now)).core) }
-    ensures sends { OnOk result (sends.new.items ≡ sends.old.items ++ addressed (done running_core.old (VisitAct token.now)).sends) }
+    ensures core { OnOk result (running_core.new ≡ (transition_and_proposal running_core.old (VisitAct token.now)).core) }
+    ensures sends { OnOk result (sends.new.items ≡ sends.old.items ++ sends_with_receivers (transition_and_proposal running_core.old (VisitAct token.now)).sends) }
     ensures refused { IfErr result (λ fault. fault ≡ Memory) }
 {
     running_core.visit(token, sends)?;
@@ -232,57 +234,57 @@ fn visit_and_propose<A: Allocator + Copy>(
 /// Errors: `Memory` if an allocation fails; the core is then unspecified.
 ///
 /// Rules: Rings and states 14; The commit token 7
-pub(crate) fn visit_first<A: Allocator + Copy>(
+pub(crate) fn visit_first_token<A: Allocator + Copy>(
     running_core: &mut RunningCore<A>,
     fixed: Fixed,
 ) -> Result<Vec<Out<A>, A>, Fault>
     requires { running_core.old ≡ formed fixed.count 1 }
-    ensures core { OnOk result (running_core.new ≡ (token_visited (formed fixed.count 1) (first_token (all_of fixed.count).ring)).core) }
-    ensures outs { IfOk result (λ outs. outs.items ≡ sent (token_visited (formed fixed.count 1) (first_token (all_of fixed.count).ring)).sends) }
+    ensures core { OnOk result (running_core.new ≡ (token_visited (formed fixed.count 1) (first_token (formed_ring_of fixed.count).ring)).core) }
+    ensures outs { IfOk result (λ outs. outs.items ≡ sent (token_visited (formed fixed.count 1) (first_token (formed_ring_of fixed.count).ring)).sends) }
     ensures refused { IfErr result (λ fault. fault ≡ Memory) }
 {
-    let token = first_token(all_of(fixed).ring);
-    let mut sends = running_core.list();
+    let token = first_token(formed_ring(fixed).ring);
+    let mut sends = running_core.empty_list();
     running_core.visit(&token, &mut sends)?;
-    join_outputs(sends, running_core.list())
+    join_outputs(sends, running_core.empty_list())
 }
 
-/// Appends the outputs after a transition to `told`, which must be empty, and returns it.
+/// Appends the outputs after a transition to `other_outputs`, which must be empty, and returns it.
 ///
 /// These are what is newly agreed and safe of the ring that was installed before the transition, and the outputs of an
 /// installation.
 fn give_outputs<A: Allocator + Copy>(
     running_core: &mut RunningCore<A>,
     before: RingProgress,
-    mut told: Vec<Out<A>, A>,
+    mut other_outputs: Vec<Out<A>, A>,
 ) -> Result<Vec<Out<A>, A>, Fault>
-    requires empty { told.items ≡ [] }
+    requires empty { other_outputs.items ≡ [] }
     requires ring { before.ring ≡ running_core.old.installed.ring }
     requires mark { mark running_core.old running_core.old.installed.ring ≤ before.front }
     ensures told { IfOk result (λ told. told.items ≡ delivered_from running_core.old before.ring before.front before.mark ++
-        (settle (may_install running_core.old) running_core.old []).outs) }
-    ensures core { OnOk result (running_core.new ≡ (settle (may_install running_core.old) running_core.old []).core) }
+        (with_installation_if (may_install running_core.old) running_core.old []).outs) }
+    ensures core { OnOk result (running_core.new ≡ (with_installation_if (may_install running_core.old) running_core.old []).core) }
     ensures refused { IfErr result (λ fault. fault ≡ Memory) }
 {
-    running_core.give(before, &mut told)?;
-    running_core.install_if_due(&mut told)?;
-    Ok(told)
+    running_core.give_ring_outputs(before, &mut other_outputs)?;
+    running_core.install_if_due(&mut other_outputs)?;
+    Ok(other_outputs)
 }
 
 /// Returns all outputs of a step in one list: the frames to be sent, then the others.
 fn join_outputs<A: Allocator + Copy>(
     sends: Vec<OutgoingFrame<A>, A>,
-    mut told: Vec<Out<A>, A>,
+    mut other_outputs: Vec<Out<A>, A>,
 ) -> Result<Vec<Out<A>, A>, Fault>
-    ensures ok { IfOk result (λ outs. outs.items ≡ map (λ (s : ToldSent A). Send s.to s.frame) sends.items ++ told.items) }
+    ensures ok { IfOk result (λ outs. outs.items ≡ map (λ (s : ToldSent A). Send s.to s.frame) sends.items ++ other_outputs.items) }
     ensures refused { IfErr result (λ fault. fault ≡ Memory) }
 {
-    let mut outs = Vec::new(*told.allocator());
-    outs.reserve(sends.len().saturating_add(told.len()))?;
+    let mut outs = Vec::new(*other_outputs.allocator());
+    outs.reserve(sends.len().saturating_add(other_outputs.len()))?;
     for sent in sends {
         outs.push(Out::Send(sent.to, sent.frame))?;
     }
-    outs.append(&mut told)?;
+    outs.append(&mut other_outputs)?;
     Ok(outs)
 }
 
@@ -291,7 +293,7 @@ fn join_outputs<A: Allocator + Copy>(
 /// Errors: `Memory` if an allocation fails; the core is unchanged.
 ///
 /// Rules: Rings and states 9
-pub(crate) fn send<A: Allocator + Copy>(
+pub(crate) fn enqueue_if_operational<A: Allocator + Copy>(
     running_core: &mut RunningCore<A>,
     payload: Payload<A>,
 ) -> Result<(), Fault>
@@ -317,16 +319,16 @@ pub(crate) fn send<A: Allocator + Copy>(
 /// Applies a transition, and then proposes a ring if one may follow and is due.
 fn apply_and_propose<A: Allocator + Copy>(
     running_core: &mut RunningCore<A>,
-    what: Transition<A>,
+    chosen_transition: Transition<A>,
     sends: &mut Vec<OutgoingFrame<A>, A>,
 ) -> Result<(), Fault>
-    requires { Allows running_core.old (transition_of what) }
-    ensures core { OnOk result (running_core.new ≡ (done running_core.old (transition_of what)).core) }
-    ensures sends { OnOk result (sends.new.items ≡ sends.old.items ++ addressed (done running_core.old (transition_of what)).sends) }
+    requires { MayApply running_core.old (transition_of chosen_transition) }
+    ensures core { OnOk result (running_core.new ≡ (transition_and_proposal running_core.old (transition_of chosen_transition)).core) }
+    ensures sends { OnOk result (sends.new.items ≡ sends.old.items ++ sends_with_receivers (transition_and_proposal running_core.old (transition_of chosen_transition)).sends) }
     ensures refused { IfErr result (λ fault. fault ≡ Memory) }
 {
-    let follows = may_propose_after(&what);
-    apply_transition(running_core, what, sends)?;
+    let follows = may_propose_after(&chosen_transition);
+    apply_transition(running_core, chosen_transition, sends)?;
     if follows {
         running_core.propose_if_due(sends)
     } else {
@@ -336,27 +338,27 @@ fn apply_and_propose<A: Allocator + Copy>(
 
 fn apply_transition<A: Allocator + Copy>(
     running_core: &mut RunningCore<A>,
-    what: Transition<A>,
+    chosen_transition: Transition<A>,
     sends: &mut Vec<OutgoingFrame<A>, A>,
 ) -> Result<(), Fault>
-    requires { Allows running_core.old (transition_of what) }
-    ensures core { OnOk result (running_core.new ≡ (apply_transition running_core.old (transition_of what)).core) }
-    ensures sends { OnOk result (sends.new.items ≡ sends.old.items ++ addressed (apply_transition running_core.old (transition_of what)).sends) }
+    requires { MayApply running_core.old (transition_of chosen_transition) }
+    ensures core { OnOk result (running_core.new ≡ (apply_transition running_core.old (transition_of chosen_transition)).core) }
+    ensures sends { OnOk result (sends.new.items ≡ sends.old.items ++ sends_with_receivers (apply_transition running_core.old (transition_of chosen_transition)).sends) }
     ensures refused { IfErr result (λ fault. fault ≡ Memory) }
 {
-    match what {
+    match chosen_transition {
         Transition::Ignore => Ok(()),
         Transition::Enqueue(payload) => running_core.enqueue(payload),
-        Transition::Repeat => running_core.repeat(sends),
-        Transition::Announce => running_core.announce(sends),
-        Transition::Invite => running_core.invite(sends),
+        Transition::Repeat => running_core.send_kept_token(sends),
+        Transition::Announce => running_core.send_own_join(sends),
+        Transition::Invite => running_core.send_invitation_join(sends),
         Transition::GiveUp => {
             running_core.give_up();
-            running_core.announce(sends)
+            running_core.send_own_join(sends)
         }
         Transition::EnterGather => {
             running_core.enter_gather();
-            running_core.announce(sends)
+            running_core.send_own_join(sends)
         }
         Transition::Agree(join) => {
             running_core.agree(&join);
@@ -364,17 +366,17 @@ fn apply_transition<A: Allocator + Copy>(
         }
         Transition::MergeJoin(join) => {
             running_core.merge_join(&join);
-            running_core.announce(sends)
+            running_core.send_own_join(sends)
         }
         Transition::EnterGatherAndAgree(join) => {
             running_core.enter_gather();
             running_core.agree(&join);
-            running_core.announce(sends)
+            running_core.send_own_join(sends)
         }
         Transition::EnterGatherAndMergeJoin(join) => {
             running_core.enter_gather();
             running_core.merge_join(&join);
-            running_core.announce(sends)
+            running_core.send_own_join(sends)
         }
         Transition::Take(message) => running_core.take(message),
         Transition::Visit(token) => running_core.visit(&token, sends),
@@ -386,13 +388,16 @@ fn apply_transition<A: Allocator + Copy>(
 /// Returns whether a proposal may follow the transition: after a timeout, or a frame that isn't ignored.
 ///
 /// Rules: Gather 10 and 11
-fn may_propose_after<A: Allocator + Copy>(what: &Transition<A>) -> bool
-    ensures { result ≡ may_propose_after (transition_of what.now) }
+fn may_propose_after<A: Allocator + Copy>(chosen_transition: &Transition<A>) -> bool
+    ensures { result ≡ may_propose_after (transition_of chosen_transition.now) }
 {
-    !matches!(what, Transition::Ignore | Transition::Enqueue(_))
+    !matches!(
+        chosen_transition,
+        Transition::Ignore | Transition::Enqueue(_)
+    )
 }
 
-fn copied<A: Allocator + Copy>(frame: &Frame<A>) -> Result<Frame<A>, Fault>
+fn copied_frame<A: Allocator + Copy>(frame: &Frame<A>) -> Result<Frame<A>, Fault>
     ensures ok { IfOk result (λ copy. copy ≡ frame.now) }
     ensures refused { IfErr result (λ fault. fault ≡ Memory) }
 {

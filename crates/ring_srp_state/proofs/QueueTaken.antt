@@ -9,8 +9,8 @@ use Rattle.ring_payload.specs.declared.content.Payload.{Payload}
 use Rattle.ring_payload.specs.declared.content.Payload.TheVariants.{Call, Wrapped, End, Head, Part, Pack, Snap}
 use Rattle.ring_payload.specs.Limits.{max_pack_calls}
 use Rattle.ring_payload.specs.Calls.{call_bytes}
-use Rattle.ring_payload.specs.Packing.{run_within, first_run, first_packed_payload, behind, packed_payloads, unpacked_rest}
-use Rattle.ring_payload.proofs.Packing.{calls_as, first_run-longest}
+use Rattle.ring_payload.specs.Packing.{run_within, longest_call_run, first_packed_payload, behind, packed_payloads, unpacked_rest}
+use Rattle.ring_payload.proofs.Packing.{calls_as, longest_call_run-longest}
 use Rattle.std.proofs.lemmas.List.{take-append-drop}
 use Rattle.ring_srp_state.specs.Packing.{call_of, bytes_of, IsLeftOf}
 use Rattle.ring_base.proofs.Rows.{left-next}
@@ -60,17 +60,17 @@ room-more more bytes b (Snap snap) queue e l = absurd cc
 
 -- the counted part of a queue's run, and the rest of the run
 abbrev pub IsCounted : {A : Type 0} → List (Payload A) → ℕ → ℕ → Type 0
-IsCounted queue count left = count + length (run_within (max_pack_calls - count) left (drop count queue)) ≡ length (first_run queue)
+IsCounted queue count left = count + length (run_within (max_pack_calls - count) left (drop count queue)) ≡ length (longest_call_run queue)
 
 module _ {A : Type 0} (queue : List (Payload A)) (count left : ℕ) where
-  pub counted-nil : length queue ≤ count → IsCounted queue count left → count ≡ length (first_run queue)
+  pub counted-nil : length queue ≤ count → IsCounted queue count left → count ≡ length (longest_call_run queue)
   counted-nil l i =
       let e : length (run_within (max_pack_calls - count) left (drop count queue)) ≡ 0 = run-none (max_pack_calls - count) left
       (drop count queue) (at_drop_all (λ q. q) queue count l) in
       omega arith
 
   pub counted-other : (x : Payload A) → count < length queue → x ≡ get_or queue count x → bytes_of x ≡ None
-      → IsCounted queue count left → count ≡ length (first_run queue)
+      → IsCounted queue count left → count ≡ length (longest_call_run queue)
   counted-other x l at b i =
       let d : drop count queue ≡ x ∷ drop (count + 1) queue = drop_more queue count x l ∙ ap (λ y. y ∷ drop (count + 1) queue) (sym at) in
       let e : length (run_within (max_pack_calls - count) left (drop count queue)) ≡ 0 =
@@ -79,7 +79,7 @@ module _ {A : Type 0} (queue : List (Payload A)) (count left : ℕ) where
       omega arith
 
   pub counted-long : (x : Payload A) (b : ℕ) → count < length queue → x ≡ get_or queue count x → bytes_of x ≡ Some b
-      → left < b → IsCounted queue count left → count ≡ length (first_run queue)
+      → left < b → IsCounted queue count left → count ≡ length (longest_call_run queue)
   counted-long x b l at s far i =
       let d : drop count queue ≡ x ∷ drop (count + 1) queue = drop_more queue count x l ∙ ap (λ y. y ∷ drop (count + 1) queue) (sym at) in
       let e : length (run_within (max_pack_calls - count) left (drop count queue)) ≡ 0 =
@@ -99,7 +99,7 @@ module _ {A : Type 0} (queue : List (Payload A)) (count left : ℕ) where
       ∙ room-more (max_pack_calls - (count + 1)) left b x (drop (count + 1) queue) s near in
       omega arith
 
-  pub counted-all : max_pack_calls ≤ count → count ≤ max_pack_calls → IsCounted queue count left → max_pack_calls ≡ length (first_run queue)
+  pub counted-all : max_pack_calls ≤ count → count ≤ max_pack_calls → IsCounted queue count left → max_pack_calls ≡ length (longest_call_run queue)
   counted-all l u i =
       let n : max_pack_calls - count ≡ 0 = omega arith in
       let e : length (run_within (max_pack_calls - count) left (drop count queue)) ≡ 0 = ap (λ m. length (run_within m left (drop count queue))) n in
@@ -115,22 +115,22 @@ next-call (c ∷ run) rest (suc i) l =
     let n = next-call run rest i (omega arith) in
     (n.0, n.1, ap (λ xs. c ∷ xs) n.2)
 
-call-at : {A : Type 0} (queue : List (Payload A)) (i : ℕ) → i < length (first_run queue) →
-    (c : OneCall A) × (drop i queue ≡ Call c ∷ drop (suc i) queue) × (take (suc i) (first_run queue) ≡ take i (first_run queue) ++ c ∷ [])
+call-at : {A : Type 0} (queue : List (Payload A)) (i : ℕ) → i < length (longest_call_run queue) →
+    (c : OneCall A) × (drop i queue ≡ Call c ∷ drop (suc i) queue) × (take (suc i) (longest_call_run queue) ≡ take i (longest_call_run queue) ++ c ∷ [])
 call-at queue i l =
-    let b = (first_run-longest queue).fits.begins in
-    let n = next-call (first_run queue) b.0 i l in
+    let b = (longest_call_run-longest queue).fits.begins in
+    let n = next-call (longest_call_run queue) b.0 i l in
     (n.0, subst (λ q. drop i q ≡ Call n.0 ∷ drop (suc i) q) b.1 n.1, n.2)
 
 -- a Call of the run is at the front of the rest
-pub queue-left : {A : Type 0} (queue now : List (Payload A)) (i : ℕ) → i < length (first_run queue) → now ≡ drop i queue → length now ≡ 0 → ⊥
+pub queue-left : {A : Type 0} (queue now : List (Payload A)) (i : ℕ) → i < length (longest_call_run queue) → now ≡ drop i queue → length now ≡ 0 → ⊥
 queue-left queue now i l e z =
     let c = call-at queue i l in
     let n : length now ≡ suc (length (drop (suc i) queue)) = ap length (e ∙ c.1) in
     absurd (omega arith)
 
 pub call-left : {A : Type 0} (queue now after : List (Payload A)) (p : Payload A) (i : ℕ)
-    → i < length (first_run queue) → now ≡ drop i queue → now ≡ p ∷ after → call_of p ≡ None → ⊥
+    → i < length (longest_call_run queue) → now ≡ drop i queue → now ≡ p ∷ after → call_of p ≡ None → ⊥
 call-left queue now after p i l e n none =
     let c = call-at queue i l in
     let front : p ∷ after ≡ Call c.0 ∷ drop (suc i) queue = sym n ∙ e ∙ c.1 in
@@ -139,9 +139,9 @@ call-left queue now after p i l e n none =
     absurd cc
 
 pub call-moved : {A : Type 0} (queue now after : List (Payload A)) (calls : List (OneCall A)) (p : Payload A)
-    (c : OneCall A) (i : ℕ) → i < length (first_run queue) →
-    calls ≡ take i (first_run queue) → now ≡ drop i queue → now ≡ p ∷ after → call_of p ≡ Some c →
-    (calls ++ c ∷ [] ≡ take (i + 1) (first_run queue)) × (after ≡ drop (i + 1) queue)
+    (c : OneCall A) (i : ℕ) → i < length (longest_call_run queue) →
+    calls ≡ take i (longest_call_run queue) → now ≡ drop i queue → now ≡ p ∷ after → call_of p ≡ Some c →
+    (calls ++ c ∷ [] ≡ take (i + 1) (longest_call_run queue)) × (after ≡ drop (i + 1) queue)
 call-moved queue now after calls p c i l t e n some =
     let a = call-at queue i l in
     let front : p ∷ after ≡ Call a.0 ∷ drop (suc i) queue = sym n ∙ e ∙ a.1 in
@@ -150,8 +150,8 @@ call-moved queue now after calls p c i l t e n some =
     let told : Some c ≡ Some a.0 = sym some ∙ ap call_of first in
     let same : c ≡ a.0 = cc in
     let one : suc i ≡ i + 1 = omega arith in (
-      ap (λ xs. xs ++ c ∷ []) t ∙ ap (λ x. take i (first_run queue) ++ x ∷ []) same ∙ sym a.2
-          ∙ ap (λ n. take n (first_run queue)) one,
+      ap (λ xs. xs ++ c ∷ []) t ∙ ap (λ x. take i (longest_call_run queue) ++ x ∷ []) same ∙ sym a.2
+          ∙ ap (λ n. take n (longest_call_run queue)) one,
       rest ∙ ap (λ n. drop n queue) one,
     )
 
@@ -169,7 +169,7 @@ made-pack first (c ∷ d ∷ run) l = refl
 
 -- where the run has no call or one, the first payload goes as it is
 pub first-alone : {A : Type 0} (queue after : List (Payload A)) (o : Option (Payload A)) → queue ≡ option_to_list o
-    ++ after → (0 < length queue → IsSome o) → length (first_run queue) < 2 →
+    ++ after → (0 < length queue → IsSome o) → length (longest_call_run queue) < 2 →
     (option_to_list o ≡ packed_payloads 1 queue) × (after ≡ behind queue)
 first-alone [] after None e s l = (refl, sym e)
 first-alone {A} (x ∷ queue) after None e s l =
@@ -179,18 +179,18 @@ first-alone [] after (Some p) e s l = absurd cc
 first-alone (x ∷ queue) after (Some p) e s l =
     let first : x ≡ p = cc in
     let rest : queue ≡ after = cc in
-    let n : max 1 (length (first_run (x ∷ queue))) ≡ 1 = omega arith in
-    (ap (λ y. y ∷ []) (sym first ∙ sym (made-alone x (first_run (x ∷ queue)) l)), sym rest ∙ ap (λ m. drop m (x ∷ queue)) (sym n))
+    let n : max 1 (length (longest_call_run (x ∷ queue))) ≡ 1 = omega arith in
+    (ap (λ y. y ∷ []) (sym first ∙ sym (made-alone x (longest_call_run (x ∷ queue)) l)), sym rest ∙ ap (λ m. drop m (x ∷ queue)) (sym n))
 
 -- a run of two or more goes as a Pack
-pub first-packed_payloads : {A : Type 0} (queue : List (Payload A)) (run : List (OneCall A)) → run ≡ first_run queue → 2 ≤ length (first_run queue) →
+pub first-packed_payloads : {A : Type 0} (queue : List (Payload A)) (run : List (OneCall A)) → run ≡ longest_call_run queue → 2 ≤ length (longest_call_run queue) →
     Pack (record { calls = run }) ∷ [] ≡ packed_payloads 1 queue
 first-packed_payloads [] run e l = absurd (omega (arith, l))
-first-packed_payloads (first ∷ queue) run e l = ap (λ y. y ∷ []) (ap (λ r. Pack (record { calls = r })) e ∙ sym (made-pack first (first_run (first ∷ queue)) l))
+first-packed_payloads (first ∷ queue) run e l = ap (λ y. y ∷ []) (ap (λ r. Pack (record { calls = r })) e ∙ sym (made-pack first (longest_call_run (first ∷ queue)) l))
 
-pub behind-packed_payloads : {A : Type 0} (queue : List (Payload A)) (count : ℕ) → count ≡ length (first_run queue) → 2 ≤ count → drop count queue ≡ behind queue
+pub behind-packed_payloads : {A : Type 0} (queue : List (Payload A)) (count : ℕ) → count ≡ length (longest_call_run queue) → 2 ≤ count → drop count queue ≡ behind queue
 behind-packed_payloads queue count e l =
-    let n : count ≡ max 1 (length (first_run queue)) = omega arith in
+    let n : count ≡ max 1 (length (longest_call_run queue)) = omega arith in
     ap (λ m. drop m queue) n
 
 -- All messages
@@ -199,7 +199,7 @@ packed_payloads-first : {A : Type 0} (more : ℕ) (queue : List (Payload A)) (m 
     → packed_payloads (suc more) queue ≡ m ∷ packed_payloads more (behind queue)
 packed_payloads-first more [] m e = absurd cc
 packed_payloads-first more (first ∷ queue) m e =
-    let same : m ≡ first_packed_payload first (first_run (first ∷ queue)) = cc in
+    let same : m ≡ first_packed_payload first (longest_call_run (first ∷ queue)) = cc in
     ap (λ x. x ∷ packed_payloads more (behind (first ∷ queue))) (sym same)
 
 packed_payloads-none : {A : Type 0} (more : ℕ) (queue : List (Payload A)) → [] ≡ packed_payloads 1 queue → packed_payloads more queue ≡ []
@@ -277,7 +277,7 @@ pub left-drop : {A : Type 0} (queue left : List (Payload A)) (n : ℕ) → left 
 left-drop queue left n e = (take n queue, ap (λ xs. take n queue ++ xs) e ∙ take-append-drop n queue)
 
 pub left-behind : {A : Type 0} (queue left : List (Payload A)) → left ≡ behind queue → IsLeftOf left queue
-left-behind queue left e = left-drop queue left (max 1 (length (first_run queue))) e
+left-behind queue left e = left-drop queue left (max 1 (length (longest_call_run queue))) e
 
 pub left-twice : {A : Type 0} {queue mid left : List (Payload A)} → IsLeftOf mid queue → IsLeftOf left mid → IsLeftOf left queue
 left-twice {A} {queue} {mid} {left} a b = (a.0 ++ b.0, append_assoc a.0 b.0 left ∙ ap (λ xs. a.0 ++ xs) b.1 ∙ a.1)

@@ -1,9 +1,9 @@
 -- The outputs of the old ring's messages in a transitional configuration, message by message.
 -- Rules: Outputs 5
 use Rattle.std.specs.Prelude.{ℕ, List, [], ◌∷◌, map, filter, filter_map}
-use Rattle.ring_payload.specs.Kinds.{is_user}
+use Rattle.ring_payload.specs.PayloadKinds.{is_user}
 use Rattle.ring_wire.specs.declared.message.Message.{Message}
-use Rattle.ring_window.specs.Windows.{WindowHistory, kept}
+use Rattle.ring_window.specs.Windows.{WindowHistory, message_above_mark}
 use Rattle.ring_core_spec.specs.declared.out.Out.{Out}
 use Rattle.ring_core_spec.specs.declared.out.Out.TheVariants.{Rest}
 
@@ -13,4 +13,4 @@ rest_one x = map (λ (y : Message _). Rest y.ring y.number y) (filter (λ (y : M
 
 -- The outputs of the messages of these numbers that the window still has.
 abbrev pub rest_of : {A : Type 0} → WindowHistory A → List ℕ → List (Out A)
-rest_of w ns = map (λ (x : Message _). Rest x.ring x.number x) (filter (λ (x : Message _). is_user x.payload) (filter_map (kept w) ns))
+rest_of w ns = map (λ (x : Message _). Rest x.ring x.number x) (filter (λ (x : Message _). is_user x.payload) (filter_map (message_above_mark w) ns))

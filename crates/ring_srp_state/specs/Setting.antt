@@ -5,15 +5,15 @@ use Rattle.ring_payload.specs.declared.content.Payload.{Payload}
 use Rattle.ring_wire.specs.declared.token.Token.{Token}
 use Rattle.ring_window.specs.Held.{front_of, missing}
 use Rattle.ring_window.specs.Windows.{WindowHistory}
-use Rattle.ring_token.specs.Turns.{TokenVisit}
+use Rattle.ring_token.specs.TokenVisits.{TokenVisit}
 use Rattle.ring_token.specs.Visits.{requests_after}
-use Rattle.ring_token.specs.Histories.{TokenHistory, turn_by}
+use Rattle.ring_token.specs.Histories.{TokenHistory, visit_made}
 use Rattle.ring_srp_state.specs.declared.recovery_state.RecoveryState.{RecoveryState}
 use Rattle.ring_srp_state.specs.Users.{users_in}
 
 -- The visit of a token, once the new messages are held.
 abbrev pub turn_in : {A : Type 0} → WindowHistory A → TokenHistory A → Token → List ℕ → List (Payload A) → TokenVisit A
-turn_in w h t remaining_requests fresh = turn_by h.me (front_of w.held w.ring) fresh (requests_after remaining_requests (missing w.held w.ring w.mark (t.seq + length fresh))) t
+turn_in w h t remaining_requests fresh = visit_made h.me (front_of w.held w.ring) fresh (requests_after remaining_requests (missing w.held w.ring w.mark (t.seq + length fresh))) t
 
 -- More user messages are deferred, and all else is unchanged.
 pub record HasDeferred {A : Type 0} (before now : RecoveryState A) : Type 0 where

@@ -4,7 +4,7 @@
 use Rattle.std.specs.Prelude.{List, ◌++◌}
 use Rattle.ring_payload.specs.declared.content.Payload.{Payload}
 use Rattle.ring_wire.specs.declared.message.Message.{Message}
-use Rattle.ring_window.specs.Windows.{WindowHistory, taken}
+use Rattle.ring_window.specs.Windows.{WindowHistory, window_after_take}
 use Rattle.ring_recover.specs.Installing.{in_front}
 use Rattle.ring_recover.specs.RecoveryState.{with_seen}
 use Rattle.ring_recover.specs.Wrapping.{inner_messages}
@@ -19,9 +19,9 @@ window_front w = in_front w.held w.ring
 abbrev pub with_taken : {A : Type 0} → RecoveryState A → Message A → RecoveryState A
 with_taken r x =
     record r {
-      part = record r.part { window = taken r.part.window x };
+      part = record r.part { window = window_after_take r.part.window x };
       plan = with_seen r.plan x;
-      ends = window_front (taken r.part.window x);
+      ends = window_front (window_after_take r.part.window x);
     }
 
 -- The inner message of a payload, if it belongs to the window's ring and is new there.

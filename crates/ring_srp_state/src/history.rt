@@ -4,7 +4,7 @@
 
 ghost use Rattle.std.specs.Prelude.{◌≡◌, [], ◌∷◌, ◌++◌};
 ghost use Rattle.ring_core_spec.specs.State.{formed, opening};
-ghost use Rattle.ring_srp_state.specs.Histories.{with_ring, with_visit, with_plan, with_install};
+ghost use Rattle.ring_srp_state.specs.Histories.{with_ring, history_with_core_visit, history_with_plan, history_with_install};
 ghost use Rattle.ring_srp_state.specs.Histories.{history_of};
 
 use ring_base::{Fixed, Ghost, Proc, RingId, ghost_of, ghost_step};
@@ -36,7 +36,7 @@ impl<A: Allocator + Copy> Model for CoreHistory<A> {
 /// Returns the lists of facts of processor `me` at the opening.
 ///
 /// Rules: Rings and states 5
-pub fn opened<A: Allocator + Copy>(fixed: Fixed, me: Proc) -> Ghost<CoreHistory<A>>
+pub fn opening_history<A: Allocator + Copy>(fixed: Fixed, me: Proc) -> Ghost<CoreHistory<A>>
     ensures { result.value ≡ history_of (opening fixed.count me) }
 {
     ghost_of(&(&fixed, &me))
@@ -45,7 +45,7 @@ pub fn opened<A: Allocator + Copy>(fixed: Fixed, me: Proc) -> Ghost<CoreHistory<
 /// Returns the lists of facts of processor `me` in the formed ring of all processors.
 ///
 /// Rules: Rings and states 14
-pub fn formed_of<A: Allocator + Copy>(fixed: Fixed, me: Proc) -> Ghost<CoreHistory<A>>
+pub fn formed_history<A: Allocator + Copy>(fixed: Fixed, me: Proc) -> Ghost<CoreHistory<A>>
     ensures { result.value ≡ history_of (formed fixed.count me) }
 {
     ghost_of(&(&fixed, &me))
@@ -54,7 +54,7 @@ pub fn formed_of<A: Allocator + Copy>(fixed: Fixed, me: Proc) -> Ghost<CoreHisto
 /// Returns the lists after the core takes part in the ring `running` and reports `own` about its old ring.
 ///
 /// Rules: Rings and states 7
-pub fn with_ring<A: Allocator + Copy>(
+pub fn history_with_ring<A: Allocator + Copy>(
     history: &Ghost<CoreHistory<A>>,
     running: Configuration,
     own: &CommitEntry,
@@ -67,11 +67,11 @@ pub fn with_ring<A: Allocator + Copy>(
 /// Returns the lists after one more visit of the token: the newest one in `visit`.
 ///
 /// Rules: Token and window 7
-pub fn with_visit<A: Allocator + Copy>(
+pub fn history_with_core_visit<A: Allocator + Copy>(
     history: &Ghost<CoreHistory<A>>,
     visit: &Visit<A>,
 ) -> Ghost<CoreHistory<A>>
-    ensures { result.value ≡ with_visit history.now.value visit.now.turns }
+    ensures { result.value ≡ history_with_core_visit history.now.value visit.now.turns }
 {
     ghost_step(history, visit)
 }
@@ -82,13 +82,13 @@ pub fn with_visit<A: Allocator + Copy>(
 /// `mark` is the safe mark to which the plan raises the ring `old`.
 ///
 /// Rules: Recovery 3
-pub fn with_plan<A: Allocator + Copy>(
+pub fn history_with_plan<A: Allocator + Copy>(
     history: &Ghost<CoreHistory<A>>,
     token: &Ghost<CommitToken>,
     old: RingId,
     mark: u64,
 ) -> Ghost<CoreHistory<A>>
-    ensures { result.value ≡ with_plan history.now.value token.now.value old mark }
+    ensures { result.value ≡ history_with_plan history.now.value token.now.value old mark }
 {
     ghost_step(history, &(token, old, mark))
 }
@@ -96,31 +96,31 @@ pub fn with_plan<A: Allocator + Copy>(
 /// Returns the lists after the core installs the ring `running`.
 ///
 /// Rules: Recovery 7
-pub fn with_install<A: Allocator + Copy>(
+pub fn history_with_install<A: Allocator + Copy>(
     history: &Ghost<CoreHistory<A>>,
     running: Configuration,
 ) -> Ghost<CoreHistory<A>>
-    ensures { result.value ≡ with_install history.now.value running }
+    ensures { result.value ≡ history_with_install history.now.value running }
 {
     ghost_step(history, &running)
 }
 
 /// Returns the empty ghost list.
-pub fn none<M>() -> Ghost<[M; 0]>
+pub fn empty_ghost_list<M>() -> Ghost<[M; 0]>
     ensures { result.value ≡ [] }
 {
     ghost_of(&())
 }
 
 /// Returns the ghost list with an item added at its head.
-pub fn one_first<M>(items: &Ghost<[M; 0]>, item: &M) -> Ghost<[M; 0]>
+pub fn ghost_list_with_first<M>(items: &Ghost<[M; 0]>, item: &M) -> Ghost<[M; 0]>
     ensures { result.value ≡ item.now ∷ items.now.value }
 {
     ghost_of(&(items, item))
 }
 
 /// Returns the ghost list with an item added at its end.
-pub fn one_last<M>(items: &Ghost<[M; 0]>, item: &M) -> Ghost<[M; 0]>
+pub fn ghost_list_with_last<M>(items: &Ghost<[M; 0]>, item: &M) -> Ghost<[M; 0]>
     ensures { result.value ≡ items.now.value ++ item.now ∷ [] }
 {
     ghost_of(&(items, item))

@@ -6,23 +6,24 @@
 //! Rules: Rings and states 3 and 9; Token and window 7, 9 and 12; Recovery 4 to 6; Outputs 3 to 6
 #![tactic(auto)]
 
-mod giving;
 mod history;
 mod packing;
 mod queued;
 mod recovery_state;
+mod ring_output_lists;
 mod ring_part;
-mod sent;
+mod send_list;
 mod wrapping;
 
-pub use giving::{give_agreed, give_deferred, give_rest, give_safe};
 pub use history::{
-    CoreHistory, formed_of, none, one_first, one_last, opened, with_install, with_plan, with_ring,
-    with_visit,
+    CoreHistory, empty_ghost_list, formed_history, ghost_list_with_first, ghost_list_with_last,
+    history_with_core_visit, history_with_install, history_with_plan, history_with_ring,
+    opening_history,
 };
 pub use packing::take_packed;
 pub use queued::is_queued;
 pub use recovery_state::{RecoveryState, unwrap_into};
-pub use ring_part::RingPart;
-pub use sent::{send, send_copy, send_message};
+pub use ring_output_lists::{give_agreed, give_deferred, give_rest, give_safe};
+pub use ring_part::WindowAndVisits;
+pub use send_list::{push_frame, send_copy, send_message};
 pub use wrapping::first_recovery_messages;

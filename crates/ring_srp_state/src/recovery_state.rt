@@ -6,16 +6,16 @@ ghost use Rattle.std.specs.Prelude.{◌≡◌, ◌≤◌, ◌++◌, length, IfOk
 ghost use Rattle.ring_base.specs.Prefixes.{IsListPrefix};
 ghost use Rattle.ring_base.specs.declared.fault.Fault.TheVariants.{Memory};
 ghost use Rattle.ring_window.specs.Held.{front_of};
-ghost use Rattle.ring_window.specs.Windows.{taken};
+ghost use Rattle.ring_window.specs.Windows.{window_after_take};
 ghost use Rattle.ring_srp_state.specs.Copies.{IsCopied};
 ghost use Rattle.ring_srp_state.specs.Setting.{HasDeferred};
 ghost use Rattle.ring_srp_state.specs.Taking.{window_front, with_taken, with_inner};
 ghost use Rattle.ring_srp_state.specs.Users.{users_in, user_of};
 
-use crate::ring_part::RingPart;
+use crate::ring_part::WindowAndVisits;
 use ring_base::Fault;
 use ring_payload::Payload;
-use ring_recover::{Ends, Plan, is_user, unwrap};
+use ring_recover::{EndCounts, Plan, is_user_payload, unwrap};
 use ring_window::Window;
 use ring_wire::Message;
 use std::alloc::{AllocError, Allocator, Global};
@@ -29,11 +29,11 @@ use std::alloc::{AllocError, Allocator, Global};
 #[derive(Drop)]
 pub struct RecoveryState<A: Allocator + Copy = Global> {
     /// The window and the visits of the running ring.
-    pub part: RingPart<A>,
+    pub part: WindowAndVisits<A>,
     /// The plan: what the transitional members hold of the old ring, and which of its messages were seen wrapped.
     pub plan: Plan<A>,
     /// The counts of Ends and user messages in the running ring's front, which decide on installation.
-    pub ends: Ends<A>,
+    pub ends: EndCounts<A>,
     /// The greatest number up to which the running ring's user messages have been deferred, 0 at first.
     pub most: u64,
     /// The deferred messages, in ascending order of their numbers.
@@ -58,7 +58,7 @@ impl<A: Allocator + Copy> RecoveryState<A> {
     {
         for before in self.most..self.part.window.front() {
             if let Some(message) = self.part.window.get(before + 1) {
-                keep_copy(message, &mut self.deferred)?;
+                push_copy_if_user(message, &mut self.deferred)?;
             }
             self.most = before + 1;
         }
@@ -73,8 +73,8 @@ impl<A: Allocator + Copy> RecoveryState<A> {
     ///
     /// Rules: Recovery 5, 7 and 11
     pub fn take(&mut self, message: Message<A>)
-        requires front { IsListPrefix self.old.ends (window_front (taken self.old.part.window message)) }
-        requires mark { (taken self.old.part.window message).mark ≤ length self.old.ends }
+        requires front { IsListPrefix self.old.ends (window_front (window_after_take self.old.part.window message)) }
+        requires mark { (window_after_take self.old.part.window message).mark ≤ length self.old.ends }
         ensures { self.new ≡ with_taken self.old message }
     {
         self.plan.observe_message(&message);
@@ -111,7 +111,7 @@ fn copied_messages<A: Allocator + Copy>(
 /// Appends a copy of the message if it is a user message.
 ///
 /// Errors: `Memory` if an allocation fails; nothing is appended.
-fn keep_copy<A: Allocator + Copy>(
+fn push_copy_if_user<A: Allocator + Copy>(
     message: &Message<A>,
     deferred: &mut Vec<Message<A>, A>,
 ) -> Result<(), Fault>
@@ -119,7 +119,7 @@ fn keep_copy<A: Allocator + Copy>(
     ensures kept { OnErr result (deferred.new.items ≡ deferred.old.items) }
     ensures refused { IfErr result (λ fault. fault ≡ Memory) }
 {
-    if is_user(&message.payload) {
+    if is_user_payload(&message.payload) {
         let copy = message.clone()?;
         deferred.push(copy)?;
     }

@@ -12,13 +12,13 @@ ghost use Rattle.ring_base.specs.declared.fault.Fault.TheVariants.{Memory};
 ghost use Rattle.ring_payload.specs.declared.content.Payload.{Payload as OnePayload};
 ghost use Rattle.ring_wire.specs.declared.frame.Frame.TheVariants.{Token as TokenFrame};
 ghost use Rattle.ring_window.specs.Held.{front_of, missing};
-ghost use Rattle.ring_window.specs.Windows.{opened, window_after_forget};
-ghost use Rattle.ring_token.specs.Turns.{turns_of};
+ghost use Rattle.ring_window.specs.Windows.{window_opening, window_after_forget};
+ghost use Rattle.ring_token.specs.TokenVisits.{visits_in_ring};
 ghost use Rattle.ring_token.specs.Visits.{token_after, requests_after};
-ghost use Rattle.ring_token.specs.Histories.{without_visits, turn_by, with_turn, mark_of, last_aru};
+ghost use Rattle.ring_token.specs.Histories.{without_visits, visit_made, history_with_visit, mark_of, last_aru};
 ghost use Rattle.ring_srp_state.specs.Setting.{turn_in};
 
-use crate::sent::copied;
+use crate::send_list::copied_token;
 use ring_base::{Fault, Ghost, Proc, ProcSet, RingId};
 use ring_core_spec::OutgoingFrame;
 use ring_payload::Payload;
@@ -31,27 +31,27 @@ use std::alloc::{AllocError, Allocator, Global};
 ///
 /// Rules: Rings and states 3
 #[derive(Drop)]
-pub struct RingPart<A: Allocator + Copy = Global> {
+pub struct WindowAndVisits<A: Allocator + Copy = Global> {
     /// The messages held above the safe mark, and which numbers are new.
     pub window: Window<A>,
     /// This processor's visits of the token, and its safe mark in the ring.
     pub visit: Visit<A>,
 }
 
-impl<A: Allocator + Copy> RingPart<A> {
+impl<A: Allocator + Copy> WindowAndVisits<A> {
     /// Creates the state for a ring of which processor `me` holds nothing and whose token it hasn't visited.
     ///
     /// Errors: `Memory` if an allocation fails.
     ///
     /// Rules: Rings and states 3
-    pub fn new(alloc: A, me: Proc, ring: RingId) -> Result<RingPart<A>, Fault>
-        ensures window { IfOk result (λ part. part.window ≡ opened ring) }
+    pub fn new(alloc: A, me: Proc, ring: RingId) -> Result<WindowAndVisits<A>, Fault>
+        ensures window { IfOk result (λ part. part.window ≡ window_opening ring) }
         ensures visit { IfOk result (λ part. part.visit ≡ without_visits me ring) }
         ensures refused { IfErr result (λ fault. fault ≡ Memory) }
     {
         let window = Window::new(alloc, ring)?;
         let visit = Visit::new(me, window.ring());
-        Ok(RingPart { window, visit })
+        Ok(WindowAndVisits { window, visit })
     }
 
     /// Visits the token, writes the token to forward into `last_sent`, and drops the messages that have become safe.
@@ -80,12 +80,12 @@ impl<A: Allocator + Copy> RingPart<A> {
         requires count { length fresh.now.value ≡ count }
         requires remaining_requests { IsStrictlyIncreasing remaining_requests.now }
         requires reached { mark_of self.old.visit ≤ front_of self.old.window.held self.old.window.ring }
-        requires led { last_aru (turns_of self.old.visit.ring self.old.visit.turns) ≤ front_of self.old.window.held self.old.window.ring }
+        requires led { last_aru (visits_in_ring self.old.visit.ring self.old.visit.turns) ≤ front_of self.old.window.held self.old.window.ring }
         ensures last_sent { last_sent.new ≡ Some (record {
           to = to;
           frame = TokenFrame (turn_in self.old.window self.old.visit token.now remaining_requests.now fresh.now.value).forwarded;
         }) }
-        ensures visit { self.new.visit ≡ with_turn self.old.visit (turn_in self.old.window self.old.visit token.now remaining_requests.now fresh.now.value) }
+        ensures visit { self.new.visit ≡ history_with_visit self.old.visit (turn_in self.old.window self.old.visit token.now remaining_requests.now fresh.now.value) }
         ensures window { self.new.window ≡ window_after_forget self.old.window (mark_of self.new.visit) }
     {
         if let Some(sent) = last_sent {
@@ -115,15 +115,15 @@ impl<A: Allocator + Copy> RingPart<A> {
         requires count { length fresh.now.value ≡ count }
         requires remaining_requests { IsStrictlyIncreasing remaining_requests.now }
         requires reached { mark_of self.old.visit ≤ front_of self.old.window.held self.old.window.ring }
-        requires led { last_aru (turns_of self.old.visit.ring self.old.visit.turns) ≤ front_of self.old.window.held self.old.window.ring }
+        requires led { last_aru (visits_in_ring self.old.visit.ring self.old.visit.turns) ≤ front_of self.old.window.held self.old.window.ring }
         ensures last_sent { last_sent.new ≡ Some (record {
           to = to;
           frame = TokenFrame (turn_in self.old.window self.old.visit token.now remaining_requests.now fresh.now.value).forwarded;
         }) }
-        ensures visit { self.new.visit ≡ with_turn self.old.visit (turn_in self.old.window self.old.visit token.now remaining_requests.now fresh.now.value) }
+        ensures visit { self.new.visit ≡ history_with_visit self.old.visit (turn_in self.old.window self.old.visit token.now remaining_requests.now fresh.now.value) }
         ensures window { self.new.window ≡ window_after_forget self.old.window (mark_of self.new.visit) }
     {
-        let mut forwarded = copied(token);
+        let mut forwarded = copied_token(token);
         self.visit_into_token(token, remaining_requests, count, fresh, &mut forwarded);
         *last_sent = Some(OutgoingFrame {
             to,
@@ -146,9 +146,9 @@ impl<A: Allocator + Copy> RingPart<A> {
         requires count { length fresh.now.value ≡ count }
         requires remaining_requests { IsStrictlyIncreasing remaining_requests.now }
         requires reached { mark_of self.old.visit ≤ front_of self.old.window.held self.old.window.ring }
-        requires led { last_aru (turns_of self.old.visit.ring self.old.visit.turns) ≤ front_of self.old.window.held self.old.window.ring }
+        requires led { last_aru (visits_in_ring self.old.visit.ring self.old.visit.turns) ≤ front_of self.old.window.held self.old.window.ring }
         ensures token { forwarded.new ≡ (turn_in self.old.window self.old.visit token.now remaining_requests.now fresh.now.value).forwarded }
-        ensures visit { self.new.visit ≡ with_turn self.old.visit (turn_in self.old.window self.old.visit token.now remaining_requests.now fresh.now.value) }
+        ensures visit { self.new.visit ≡ history_with_visit self.old.visit (turn_in self.old.window self.old.visit token.now remaining_requests.now fresh.now.value) }
         ensures window { self.new.window ≡ window_after_forget self.old.window (mark_of self.new.visit) }
     {
         self.fill_requests(
@@ -157,7 +157,7 @@ impl<A: Allocator + Copy> RingPart<A> {
             &mut forwarded.requests,
         );
         let front = self.window.front();
-        visit_as(&mut self.visit, token, front, count, fresh, forwarded);
+        visit_with_payloads(&mut self.visit, token, front, count, fresh, forwarded);
         self.window.forget(self.visit.safe());
     }
 
@@ -173,11 +173,11 @@ impl<A: Allocator + Copy> RingPart<A> {
     }
 }
 
-impl<A: Allocator + Copy> Clone for RingPart<A> {
+impl<A: Allocator + Copy> Clone for WindowAndVisits<A> {
     ghost is_clone = { λ part copy. copy ≡ part };
 
-    fn clone(&self) -> Result<RingPart<A>, AllocError> {
-        Ok(RingPart {
+    fn clone(&self) -> Result<WindowAndVisits<A>, AllocError> {
+        Ok(WindowAndVisits {
             visit: self.visit.clone()?,
             window: self.window.clone()?,
         })
@@ -200,7 +200,7 @@ fn merge_requests(remaining_requests: &Requests, missing: &mut Requests)
 ///
 /// The ghost argument of `Visit::visit_into` is chosen from a call's own arguments, so this function takes `fresh` as
 /// one of them.
-fn visit_as<A: Allocator + Copy>(
+fn visit_with_payloads<A: Allocator + Copy>(
     visit: &mut Visit<A>,
     token: &Token,
     front: u64,
@@ -215,7 +215,7 @@ fn visit_as<A: Allocator + Copy>(
     requires seq { token.now.seq + count ≤ max_number }
     requires count { length payloads ≡ count }
     ensures token { forwarded.new ≡ token_after visit.old.me front count forwarded.old.requests token.now }
-    ensures visit { visit.new ≡ with_turn visit.old (turn_by visit.old.me front payloads forwarded.old.requests token.now) }
+    ensures visit { visit.new ≡ history_with_visit visit.old (visit_made visit.old.me front payloads forwarded.old.requests token.now) }
 {
     let _ = fresh;
     visit.visit_into(token, front, count, forwarded);

@@ -39,10 +39,10 @@ pub fn first_recovery_messages<A: Allocator + Copy>(
     ensures refused { IfErr result (λ fault. fault ≡ Memory) }
 {
     // No effect at run time. The proof uses it: a number above the least front is above the greatest safe mark.
-    let sound = plan.safe() <= plan.low();
+    let sound = plan.greatest_reported_safe_mark() <= plan.least_reported_front();
     prove!(sound);
     let mut payloads = Vec::new(alloc);
-    for before in plan.low()..window.highest() {
+    for before in plan.least_reported_front()..window.highest() {
         if payloads.len() as u64 == most {
             return Ok(payloads);
         }

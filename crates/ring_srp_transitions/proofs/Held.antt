@@ -13,18 +13,18 @@ use Rattle.ring_base.specs.declared.ring_id.RingId.{RingId}
 use Rattle.ring_base.specs.contracts.state.State.{the_type}
 use Rattle.ring_base.specs.declared.state.State.{State}
 use Rattle.ring_base.specs.declared.state.State.TheVariants.{Gather, Commit, Recovery, Operational, Stopped}
-use Rattle.ring_payload.specs.Kinds.{is_user}
+use Rattle.ring_payload.specs.PayloadKinds.{is_user}
 use Rattle.ring_payload.specs.declared.content.Payload.{Payload}
 use Rattle.ring_payload.specs.declared.content.Payload.TheVariants.{Call, Wrapped, End, Head, Part, Pack, Snap}
 use Rattle.ring_wire.specs.declared.message.Message.{Message}
 use Rattle.ring_window.specs.Held.{is_numbered, found, holds, of_ring, highest, front_of, is_new}
-use Rattle.ring_window.specs.Windows.{WindowHistory, takes, taken}
+use Rattle.ring_window.specs.Windows.{WindowHistory, takes, window_after_take}
 use Rattle.ring_window.proofs.HeldFront.{front_grows}
 use Rattle.ring_window.proofs.OfRing.{found_of_ring, front_of_ring, highest_of_ring, is_new_of_ring}
 use Rattle.ring_base.proofs.SameRing.{ring_same, ring_itself, lower_other, higher_other}
 use Rattle.ring_window.proofs.Windows.{IsTaken, taken_is}
 use Rattle.ring_token.specs.Histories.{TokenHistory, last_aru}
-use Rattle.ring_token.specs.Turns.{turns_of}
+use Rattle.ring_token.specs.TokenVisits.{visits_in_ring}
 use Rattle.ring_recover.specs.Installing.{in_front}
 use Rattle.ring_recover.specs.RecoveryState.{with_seen, RecoveryState as Seen}
 use Rattle.ring_recover.specs.Wrapping.{inner_messages}
@@ -35,12 +35,12 @@ use Rattle.ring_commit.specs.declared.configuration.Configuration.{Configuration
 use Rattle.ring_core_spec.specs.State.{Core, floor}
 use Rattle.ring_core_spec.specs.Transitions.{old_ring_messages, message_taken}
 use Rattle.ring_core_spec.specs.Deciding.{takes_of, members_of, is_taken}
-use Rattle.ring_core_spec.specs.Giving.{users}
+use Rattle.ring_core_spec.specs.Giving.{user_messages_between}
 use Rattle.ring_core_spec.specs.Recoveries.{inner_message}
 use Rattle.ring_core_spec.specs.Views.{front, mark, plan, takes_number}
 use Rattle.ring_base.specs.Processors.{has}
 use Rattle.ring_srp_state.specs.declared.recovery_state.RecoveryState.{RecoveryState}
-use Rattle.ring_srp_transitions.specs.RunningCores.{IsPart, IsBelow, bound, is_forming, ring_in_use, window_of, Recovers, IsRecovering, IsRunningCore}
+use Rattle.ring_srp_transitions.specs.RunningCores.{IsPart, IsBelow, held_ring_bound, is_forming, ring_in_use, window_of, Recovers, IsRecovering, IsRunningCore}
 use Rattle.ring_srp_state.specs.Taking.{window_front, with_taken, inner_of, with_inner}
 use Rattle.ring_srp_transitions.proofs.KeptByTransitions.{machine_as}
 
@@ -102,7 +102,7 @@ part_same {A} c held ring w v same p =
       visit_is = p.visit_is;
       reached = subst (λ n. mark c ring ≤ n) f p.reached;
       near = subst (λ n. n ≤ mark c ring + 256) (sym (same_highest ring held c.held same)) p.near;
-      led = subst (λ n. last_aru (turns_of ring c.turns) ≤ n) f p.led;
+      led = subst (λ n. last_aru (visits_in_ring ring c.turns) ≤ n) f p.led;
     }
 
 -- all messages, by the ring's mark
@@ -118,7 +118,7 @@ fresh_is c ring x e h =
 -- its window takes it
 pub window_takes : {A : Type 0} (c : Core A) (ring : RingId) (x : Message A) (w : WindowHistory A) (v : TokenHistory A) → x.ring ≡ ring
     → takes_number c x.ring x.number ≡ true
-    → IsPart c ring w v → taken w x ≡ record w { held = x ∷ w.held }
+    → IsPart c ring w v → window_after_take w x ≡ record w { held = x ∷ w.held }
 window_takes {A} c ring x w v e h p =
     let new : is_new (of_ring ring c.held) (mark c ring) ring x.number ≡ true = is_new_of_ring c.held (mark c ring) ring x.number
     ∙ subst (λ (q : RingId). takes_number c q x.number ≡ true) e h in
@@ -147,7 +147,7 @@ module _ {A : Type 0} (c : Core A) (ring : RingId) (x : Message A) (t : IsTaken 
         visit_is = p.visit_is;
         reached = le_on (mark c ring) (front_of c.held ring) (front_of (x ∷ c.held) ring) p.reached (grown x c.held ring);
         near = near_by (highest (x ∷ c.held) ring) x.number (highest c.held ring) (mark c ring) high t.inside p.near;
-        led = le_on (last_aru (turns_of ring c.turns)) (front_of c.held ring) (front_of (x ∷ c.held) ring) p.led (grown x c.held ring);
+        led = le_on (last_aru (visits_in_ring ring c.turns)) (front_of c.held ring) (front_of (x ∷ c.held) ring) p.led (grown x c.held ring);
       }
 
   -- up to the old front nothing changes
@@ -163,7 +163,7 @@ module _ {A : Type 0} (c : Core A) (ring : RingId) (x : Message A) (t : IsTaken 
       let lb : length b ≡ k = up_to_all c.held ring k l in
       prefix_whole a b (prefix_shorter a b whole fa fb (omega (arith, la, lb))) (omega (arith, la, lb))
 
-  users_more : (most : ℕ) → most ≤ front c ring → users (with_held c (x ∷ c.held)) ring 0 most ≡ users c ring 0 most
+  users_more : (most : ℕ) → most ≤ front c ring → user_messages_between (with_held c (x ∷ c.held)) ring 0 most ≡ user_messages_between c ring 0 most
   users_more most l =
       let e : most - 0 ≡ most = omega arith in
       ap (λ k. filter (λ (y : Message A). is_user y.payload) (filter_map (found (x ∷ c.held) ring) (numbers_from 1 k))) e
@@ -191,12 +191,12 @@ module _ {A : Type 0} (c : Core A) where
       }
 
   module _ (x : Message A) (r : RecoveryState A) (e : x.ring ≡ c.running.ring) (h : takes_number c x.ring x.number ≡ true) (m : Recovers c r) where
-    window_with : taken r.part.window x ≡ window_of (with_held c (x ∷ c.held)) c.running.ring
+    window_with : window_after_take r.part.window x ≡ window_of (with_held c (x ∷ c.held)) c.running.ring
     window_with =
         window_takes c c.running.ring x r.part.window r.part.visit e h m.part
         ∙ (part_more c c.running.ring x (fresh_is c c.running.ring x e h) r.part.window r.part.visit m.part).window_is
 
-    ends_with : window_front (taken r.part.window x) ≡ in_front (x ∷ c.held) c.running.ring
+    ends_with : window_front (window_after_take r.part.window x) ≡ in_front (x ∷ c.held) c.running.ring
     ends_with = ap window_front window_with ∙ in_front_of_ring c.running.ring (x ∷ c.held)
 
     -- one more message of the running ring
@@ -219,15 +219,15 @@ module _ {A : Type 0} (c : Core A) where
         }
 
     -- the messages counted so far stay the first of those in the front, and the window still keeps the others
-    pub front_taken : IsListPrefix r.ends (window_front (taken r.part.window x))
+    pub front_taken : IsListPrefix r.ends (window_front (window_after_take r.part.window x))
     front_taken =
         subst (λ (ys : List (Message A)). IsListPrefix r.ends ys) (sym ends_with)
         (subst (λ (ys : List (Message A)). IsListPrefix ys (in_front (x ∷ c.held) c.running.ring)) (sym m.ends_is)
         (front_with x c.held c.running.ring (fresh_is c c.running.ring x e h).fresh))
 
-    pub mark_taken : (taken r.part.window x).mark ≤ length r.ends
+    pub mark_taken : (window_after_take r.part.window x).mark ≤ length r.ends
     mark_taken =
-        let w : (taken r.part.window x).mark ≡ mark c c.running.ring = ap (λ (u : WindowHistory A). u.mark) window_with in
+        let w : (window_after_take r.part.window x).mark ≡ mark c c.running.ring = ap (λ (u : WindowHistory A). u.mark) window_with in
         let n : length r.ends ≡ front_of c.held c.running.ring = ap length m.ends_is
         ∙ up_to_all c.held c.running.ring (front_of c.held c.running.ring) (omega arith) in
         let l : mark c c.running.ring ≤ front_of c.held c.running.ring = m.part.reached in
@@ -239,15 +239,15 @@ pub below_more : {A : Type 0} (c : Core A) (x : Message A) (n : ℕ) → x.ring.
 below_more c x n l b = record { held = (l, b.held); turns = b.turns; raises = b.raises }
 
 -- the installed ring's number is below the bound
-installed_below : (s : State) (installed number : ℕ) → installed ≤ number → (is_forming s ≡ true → installed < number) → installed < bound s number
+installed_below : (s : State) (installed number : ℕ) → installed ≤ number → (is_forming s ≡ true → installed < number) → installed < held_ring_bound s number
 installed_below Gather installed number l f = omega (arith, l)
 installed_below Commit installed number l f = omega (arith, f refl)
 installed_below Recovery installed number l f = omega (arith, l)
 installed_below Operational installed number l f = omega (arith, l)
 installed_below Stopped installed number l f = omega (arith, l)
 
-running_below : (s : State) (number : ℕ) → s ≡ Recovery → number < bound s number
-running_below s number e = subst (λ q. number < bound q number) (sym e) (let l : number < number + 1 = omega arith in omega (arith, l))
+running_below : (s : State) (number : ℕ) → s ≡ Recovery → number < held_ring_bound s number
+running_below s number e = subst (λ q. number < held_ring_bound q number) (sym e) (let l : number < number + 1 = omega arith in omega (arith, l))
 
 forming : (s : State) → s ≡ Recovery → is_forming s ≡ true
 forming s e = ap is_forming e
@@ -291,17 +291,17 @@ module _ {A : Type 0} {c : Core A} {gather : Gatherer} {window : WindowHistory A
     (m : IsRunningCore c gather window visit recovery) where
   -- outside Recovery a message of the installed ring is held
   pub held_installed : (x : Message A) → (c.state ≡ Recovery → ⊥) → x.ring ≡ ring_in_use c.state c → takes_number c x.ring x.number ≡ true
-      → (window' : WindowHistory A) (recovery' : Option (RecoveryState A)) → window' ≡ taken window x → recovery' ≡ None
+      → (window' : WindowHistory A) (recovery' : Option (RecoveryState A)) → window' ≡ window_after_take window x → recovery' ≡ None
       → IsRunningCore (with_held c (x ∷ c.held)) gather window' visit recovery'
   held_installed x n e h window' recovery' w none =
       let ring = c.installed.ring in
       let here : x.ring ≡ ring = e ∙ in_use_installed c.state c n in
       let t = fresh_is c ring x here h in
-      let l : x.ring.seq < bound c.state (floor c) = subst (λ (q : RingId). q.seq < bound c.state (floor c)) (sym here)
+      let l : x.ring.seq < held_ring_bound c.state (floor c) = subst (λ (q : RingId). q.seq < held_ring_bound c.state (floor c)) (sym here)
       (installed_below c.state ring.seq (floor c) m.older m.apart) in
       machine_as m refl refl (subst (λ (u : WindowHistory A). IsPart (with_held c (x ∷ c.held)) ring u visit)
       (sym (w ∙ window_takes c ring x window visit here h m.kept)) (part_more c ring x t window visit m.kept))
-      (below_more c x (bound c.state (floor c)) l m.below) (λ s. absurd (n s)) (λ q. none)
+      (below_more c x (held_ring_bound c.state (floor c)) l m.below) (λ s. absurd (n s)) (λ q. none)
 
   -- in Recovery a message of the running ring is held
   pub held_running : (x : Message A) (r : RecoveryState A) → c.state ≡ Recovery → recovery ≡ Some r → x.ring ≡ c.running.ring
@@ -312,9 +312,9 @@ module _ {A : Type 0} {c : Core A} {gather : Gatherer} {window : WindowHistory A
       let old = c.installed.ring in
       let apart : old.seq < ring.seq = m.apart (forming c.state s) in
       let other : same_ring x.ring old ≡ false = subst (λ (q : RingId). same_ring q old ≡ false) (sym e) (higher_other ring old apart) in
-      let l : x.ring.seq < bound c.state (floor c) = subst (λ (q : RingId). q.seq < bound c.state (floor c)) (sym e) (running_below c.state ring.seq s) in
+      let l : x.ring.seq < held_ring_bound c.state (floor c) = subst (λ (q : RingId). q.seq < held_ring_bound c.state (floor c)) (sym e) (running_below c.state ring.seq s) in
       machine_as m refl refl (part_same c (x ∷ c.held) old window visit (not_of_ring old x c.held other) m.kept)
-      (below_more c x (bound c.state (floor c)) l m.below) (λ q. recovers_more c x r e h (recovering_some c recovery r some (m.recovery_state s)))
+      (below_more c x (held_ring_bound c.state (floor c)) l m.below) (λ q. recovers_more c x r e h (recovering_some c recovery r some (m.recovery_state s)))
       (λ n. absurd (n s))
 
   -- and one of the old ring
@@ -325,9 +325,9 @@ module _ {A : Type 0} {c : Core A} {gather : Gatherer} {window : WindowHistory A
       let old = c.installed.ring in
       let apart : old.seq < ring.seq = m.apart (forming c.state s) in
       let other : same_ring y.ring ring ≡ false = subst (λ (q : RingId). same_ring q ring ≡ false) (sym e) (lower_other old ring apart) in
-      let l : y.ring.seq < bound c.state (floor c) = subst (λ (q : RingId). q.seq < bound c.state (floor c)) (sym e)
+      let l : y.ring.seq < held_ring_bound c.state (floor c) = subst (λ (q : RingId). q.seq < held_ring_bound c.state (floor c)) (sym e)
       (installed_below c.state old.seq (floor c) m.older m.apart) in
-      machine_as m refl refl (part_more c old y (fresh_is c old y e h) window visit m.kept) (below_more c y (bound c.state (floor c)) l m.below)
+      machine_as m refl refl (part_more c old y (fresh_is c old y e h) window visit m.kept) (below_more c y (held_ring_bound c.state (floor c)) l m.below)
       (λ q. recovering_on recovery (m.recovery_state q) (not_of_ring ring y c.held other)) m.over
     where
       recovering_on : (o : Option (RecoveryState A)) → IsRecovering c o → of_ring c.running.ring (y ∷ c.held) ≡ of_ring c.running.ring c.held
@@ -400,11 +400,11 @@ module _ {A : Type 0} {c : Core A} {gather : Gatherer} {window : WindowHistory A
   -- the contents of the two requirements on the state of Recovery
   pub front_there : (x : Message A) (r : RecoveryState A) → c.state ≡ Recovery → recovery ≡ Some r → x.ring ≡ c.running.ring
       → takes_number c x.ring x.number ≡ true
-      → IsListPrefix r.ends (window_front (taken r.part.window x))
+      → IsListPrefix r.ends (window_front (window_after_take r.part.window x))
   front_there x r s some e h = front_taken c x r e h (recovering_some c recovery r some (m.recovery_state s))
 
   pub mark_there : (x : Message A) (r : RecoveryState A) → c.state ≡ Recovery → recovery ≡ Some r → x.ring ≡ c.running.ring → takes_number c x.ring x.number ≡ true
-      → (taken r.part.window x).mark ≤ length r.ends
+      → (window_after_take r.part.window x).mark ≤ length r.ends
   mark_there x r s some e h = mark_taken c x r e h (recovering_some c recovery r some (m.recovery_state s))
 
 -- ---- a taken message

@@ -16,10 +16,10 @@ use Rattle.ring_base.specs.declared.state.State.TheVariants.{Gather, Commit, Rec
 use Rattle.ring_base.proofs.Cases.{guarded_none}
 use Rattle.ring_base.proofs.Each.{each-filter}
 use Rattle.ring_base.proofs.ListPlaces.{numbers-append}
-use Rattle.ring_payload.specs.Kinds.{is_user}
+use Rattle.ring_payload.specs.PayloadKinds.{is_user}
 use Rattle.ring_wire.specs.declared.message.Message.{Message}
 use Rattle.ring_window.specs.Held.{found, of_ring}
-use Rattle.ring_window.specs.Windows.{WindowHistory, kept}
+use Rattle.ring_window.specs.Windows.{WindowHistory, message_above_mark}
 use Rattle.ring_window.proofs.OfRing.{found_of_ring}
 use Rattle.ring_token.specs.Histories.{TokenHistory}
 use Rattle.ring_join.specs.Gatherers.{Gatherer}
@@ -29,13 +29,13 @@ use Rattle.ring_recover.specs.Plans.{Plan, safe, gap, known_above_safe, is_known
 use Rattle.ring_recover.specs.Installing.{in_front, is_ready_by, is_ready}
 use Rattle.ring_recover.specs.RecoveryState.{RecoveryState as Planned}
 use Rattle.ring_recover.proofs.AllRings.{finish_of_ring}
-use Rattle.ring_recover.specs.Deliveries.{delivery, finish, transitional_part, past_gap_part, is_from_transitional_member, rests}
+use Rattle.ring_recover.specs.Deliveries.{delivery, finish, transitional_part, past_gap_part, is_from_transitional_member, rest_messages}
 use Rattle.ring_recover.proofs.MessagesInFront.{kept_found}
 use Rattle.ring_core_spec.specs.declared.out.Out.{Out}
 use Rattle.ring_core_spec.specs.declared.out.Out.TheVariants.{Agreed, Trans, Rest, Regular}
 use Rattle.ring_core_spec.specs.State.{Core, floor}
 use Rattle.ring_core_spec.specs.Views.{front, mark, plan}
-use Rattle.ring_core_spec.specs.Giving.{may_install, installs_in, ready_then_complete, install, settle, users, all_agreed, safe_from, delivered_from}
+use Rattle.ring_core_spec.specs.Giving.{may_install, installs_in, ready_then_complete, install, with_installation_if, user_messages_between, all_agreed, safe_from, delivered_from}
 use Rattle.ring_srp_transitions.specs.RunningCores.{window_of, Recovers, IsRecovering, IsRunningCore}
 use Rattle.ring_srp_state.specs.declared.recovery_state.RecoveryState.{RecoveryState}
 use Rattle.ring_srp_transitions.specs.Installs.{change_outputs, all_installation_outputs}
@@ -136,7 +136,7 @@ into_operational {c} {recovery} {r} m there is none =
 -- The outputs of the new ring
 
 -- the user messages up to a number, and those after it
-pub users_parts : {A : Type 0} (c : Core A) (ring : RingId) (a b : ℕ) → a ≤ b → users c ring 0 a ++ users c ring a b ≡ users c ring 0 b
+pub users_parts : {A : Type 0} (c : Core A) (ring : RingId) (a b : ℕ) → a ≤ b → user_messages_between c ring 0 a ++ user_messages_between c ring a b ≡ user_messages_between c ring 0 b
 users_parts {A} c ring a b l =
     let some = λ (ns : List ℕ). filter (λ (x : Message A). is_user x.payload) (filter_map (found c.held ring) ns) in
     let first = numbers_from (0 + 1) (a - 0) in
@@ -150,11 +150,11 @@ users_parts {A} c ring a b l =
     ∙ ap some row
 
 -- the deferred messages are agreed first, then those after them
-pub all_given : {A : Type 0} (c : Core A) (ring : RingId) (most : ℕ) (deferred : List (Message A)) → deferred ≡ users c ring 0 most → most ≤ front c ring
+pub all_given : {A : Type 0} (c : Core A) (ring : RingId) (most : ℕ) (deferred : List (Message A)) → deferred ≡ user_messages_between c ring 0 most → most ≤ front c ring
     → map (λ x. Agreed ring x.number x) deferred ++ delivered_from c ring most 0 ≡ delivered_from c ring 0 0
 all_given {A} c ring most deferred e l =
     let out = λ (x : Message A). Agreed ring x.number x in
-    let later = users c ring most (front c ring) in
+    let later = user_messages_between c ring most (front c ring) in
     sym (append_assoc (map out deferred) (map out later) (safe_from c ring 0))
     ∙ ap (λ (xs : List (Out A)). xs ++ safe_from c ring 0) (sym (map-append out deferred later)
     ∙ ap (λ (xs : List (Message A)). map out (xs ++ later)) e
@@ -163,7 +163,7 @@ all_given {A} c ring most deferred e l =
 -- The outputs of the old ring
 
 -- a window keeps the messages above its mark
-kept_all : {A : Type 0} (w : WindowHistory A) (ns : List ℕ) → AllByRecursion (λ n. w.mark < n) ns → filter_map (kept w) ns ≡ filter_map (found w.held w.ring) ns
+kept_all : {A : Type 0} (w : WindowHistory A) (ns : List ℕ) → AllByRecursion (λ n. w.mark < n) ns → filter_map (message_above_mark w) ns ≡ filter_map (found w.held w.ring) ns
 kept_all w [] h = refl
 kept_all w (n ∷ ns) h = rw (kept_found w n h.0, kept_all w ns h.1) refl
 
@@ -182,7 +182,7 @@ known_above p b l = each-filter (λ n. b < n) (is_known p) (numbers_from (safe p
 
 -- the two parts, from the window of the installed ring
 pub rests_by : {A : Type 0} (c : Core A) (w : WindowHistory A) → w ≡ window_of c c.installed.ring → mark c c.installed.ring ≤ safe (plan c)
-    → filter_map (kept w) (transitional_part (plan c)) ++ filter_map (kept w) (past_gap_part (plan c) c.held) ≡ filter_map (found c.held c.installed.ring)
+    → filter_map (message_above_mark w) (transitional_part (plan c)) ++ filter_map (message_above_mark w) (past_gap_part (plan c) c.held) ≡ filter_map (found c.held c.installed.ring)
     (transitional_part (plan c) ++ past_gap_part (plan c) c.held)
 rests_by {A} c w e l =
     let p = plan c in
@@ -194,20 +194,20 @@ rests_by {A} c w e l =
     (nat_lt (gap p)) (known_above_safe p) all) in
     let one = kept_all v (transitional_part p) a ∙ found_all c.held old (transitional_part p) in
     let two = kept_all v (past_gap_part p c.held) b ∙ found_all c.held old (past_gap_part p c.held) in
-    ap (λ (x : WindowHistory A). filter_map (kept x) (transitional_part p) ++ filter_map (kept x) (past_gap_part p c.held)) e
-    ∙ ap (λ (xs : List (Message A)). xs ++ filter_map (kept v) (past_gap_part p c.held)) one
+    ap (λ (x : WindowHistory A). filter_map (message_above_mark x) (transitional_part p) ++ filter_map (message_above_mark x) (past_gap_part p c.held)) e
+    ∙ ap (λ (xs : List (Message A)). xs ++ filter_map (message_above_mark v) (past_gap_part p c.held)) one
     ∙ ap (λ (xs : List (Message A)). filter_map (found c.held old) (transitional_part p) ++ xs) two
     ∙ sym (filter_map-append (found c.held old) (transitional_part p) (past_gap_part p c.held))
 
 -- so they make up the rest of the old ring
 pub rest_given : {A : Type 0} (c : Core A) (w : WindowHistory A) → w ≡ window_of c c.installed.ring → mark c c.installed.ring ≤ safe (plan c)
-    → rest_of w (transitional_part (plan c)) ++ rest_of w (past_gap_part (plan c) c.held) ≡ map (λ (x : Message A). Rest x.ring x.number x) (rests
+    → rest_of w (transitional_part (plan c)) ++ rest_of w (past_gap_part (plan c) c.held) ≡ map (λ (x : Message A). Rest x.ring x.number x) (rest_messages
     (plan c) c.held)
 rest_given {A} c w e l =
     let out = λ (x : Message A). Rest x.ring x.number x in
     let users_only = λ (x : Message A). is_user x.payload in
-    let a = filter_map (kept w) (transitional_part (plan c)) in
-    let b = filter_map (kept w) (past_gap_part (plan c) c.held) in
+    let a = filter_map (message_above_mark w) (transitional_part (plan c)) in
+    let b = filter_map (message_above_mark w) (past_gap_part (plan c) c.held) in
     sym (map-append out (filter users_only a) (filter users_only b))
     ∙ ap (map out) (sym (filter-append users_only a b))
     ∙ ap (λ (xs : List (Message A)). map out (filter users_only xs)) (rests_by c w e l)
@@ -223,20 +223,20 @@ first_given {A} c outs w transitional_members m e l =
     let last : Out A = Regular c.running.ring c.running.members in
     let a = rest_of w (transitional_part (plan c)) in
     let b = rest_of w (past_gap_part (plan c) c.held) in
-    let rest = map (λ (x : Message A). Rest x.ring x.number x) (rests (plan c) c.held) in
+    let rest = map (λ (x : Message A). Rest x.ring x.number x) (rest_messages (plan c) c.held) in
     let flat : (((outs ++ first ∷ []) ++ a) ++ b) ++ last ∷ [] ≡ outs ++ first ∷ ((a ++ b) ++ last ∷ []) = simp append_assoc in
     flat ∙ ap (λ (xs : List (Out A)). outs ++ first ∷ (xs ++ last ∷ [])) (rest_given c w e l)
     ∙ ap (λ n. outs ++ Trans c.installed.ring c.running.ring n ∷ (rest ++ last ∷ [])) m
 
 -- and the new ring's outputs after them
-pub then_given : {A : Type 0} (c : Core A) (outs : List (Out A)) (most : ℕ) (deferred : List (Message A)) → deferred ≡ users c c.running.ring 0 most
+pub then_given : {A : Type 0} (c : Core A) (outs : List (Out A)) (most : ℕ) (deferred : List (Message A)) → deferred ≡ user_messages_between c c.running.ring 0 most
     → most ≤ front c c.running.ring
     → ((outs ++ change_outputs c) ++ all_agreed c.running.ring deferred) ++ delivered_from c c.running.ring most 0 ≡ outs ++ all_installation_outputs c
 unfolding change_outputs all_installation_outputs
 then_given {A} c outs most deferred e l =
     let first : Out A = Trans c.installed.ring c.running.ring (plan c).transitional_members in
     let last : Out A = Regular c.running.ring c.running.members in
-    let rest = map (λ (x : Message A). Rest x.ring x.number x) (rests (plan c) c.held) in
+    let rest = map (λ (x : Message A). Rest x.ring x.number x) (rest_messages (plan c) c.held) in
     let a = all_agreed c.running.ring deferred in
     let b = delivered_from c c.running.ring most 0 in
     let flat : ((outs ++ first ∷ (rest ++ last ∷ [])) ++ a) ++ b ≡ outs ++ first ∷ (rest ++ last ∷ (a ++ b)) = simp append_assoc in
@@ -258,7 +258,7 @@ first_by {A} c outs one two three all w transitional_members d a b e f is m ther
 
 pub then_by : {A : Type 0} (c n : Core A) (outs one two all : List (Out A)) (ring : RingId) (most : ℕ) (deferred : List (Message A))
     → one ≡ outs ++ change_outputs c → two ≡ one ++ all_agreed ring deferred → all ≡ two ++ delivered_from n ring most 0
-    → n ≡ install c → ring ≡ n.installed.ring → deferred ≡ users c c.running.ring 0 most → most ≤ front c c.running.ring → all ≡ outs ++ all_installation_outputs c
+    → n ≡ install c → ring ≡ n.installed.ring → deferred ≡ user_messages_between c c.running.ring 0 most → most ≤ front c c.running.ring → all ≡ outs ++ all_installation_outputs c
 then_by {A} c n outs one two all ring most deferred a b d is r e l =
     let same : ring ≡ c.running.ring = r ∙ ap (λ (x : Core A). x.installed.ring) is in
     d ∙ ap (λ (xs : List (Out A)). xs ++ delivered_from n ring most 0) (b ∙ ap (λ (xs : List (Out A)). xs ++ all_agreed ring deferred) a)
@@ -273,6 +273,6 @@ on_ok (Err e) p = tt
 
 -- all outputs of an installation, where one is due
 pub settled_due : {A T E : Type 0} (c : Core A) (r : Result T E) (outs all : List (Out A)) → may_install c ≡ true → OnOk r (all ≡ outs ++ all_installation_outputs c)
-    → OnOk r (all ≡ outs ++ (settle (may_install c) c []).outs)
+    → OnOk r (all ≡ outs ++ (with_installation_if (may_install c) c []).outs)
 unfolding all_installation_outputs
-settled_due c r outs all due h = subst (λ (b : Bool). OnOk r (all ≡ outs ++ (settle b c []).outs)) (sym due) h
+settled_due c r outs all due h = subst (λ (b : Bool). OnOk r (all ≡ outs ++ (with_installation_if b c []).outs)) (sym due) h

@@ -10,14 +10,14 @@ use Rattle.ring_payload.specs.declared.content.Payload.{Payload}
 use Rattle.ring_wire.specs.declared.commit.CommitToken.{CommitToken}
 use Rattle.ring_wire.specs.declared.message.Message.{Message}
 use Rattle.ring_window.specs.Windows.{WindowHistory}
-use Rattle.ring_token.specs.Turns.{TokenVisit, Raise}
+use Rattle.ring_token.specs.TokenVisits.{TokenVisit, MarkRaise}
 use Rattle.ring_token.specs.Histories.{TokenHistory}
 use Rattle.ring_join.specs.Gatherers.{Gatherer}
 use Rattle.ring_join.specs.Gathering.{Gathering}
 use Rattle.ring_commit.specs.declared.configuration.Configuration.{Configuration}
 use Rattle.ring_srp_state.specs.declared.recovery_state.RecoveryState.{RecoveryState}
 use Rattle.ring_core_spec.specs.State.{Core, OutgoingFrame, Report, floor}
-use Rattle.ring_srp_transitions.specs.RunningCores.{core_of, IsPart, IsBelow, bound, IsRecovering, IsRunningCore}
+use Rattle.ring_srp_transitions.specs.RunningCores.{core_of, IsPart, IsBelow, held_ring_bound, IsRecovering, IsRunningCore}
 
 -- Numbers below a bound are below a higher one
 
@@ -31,7 +31,7 @@ turns_wider : {A : Type 0} (m n : ℕ) (vs : List (TokenVisit A)) → m ≤ n
 turns_wider m n [] l h = tt
 turns_wider m n (v ∷ vs) l h = (omega (arith, h.0), turns_wider m n vs l h.1)
 
-raises_wider : (m n : ℕ) (xs : List Raise) → m ≤ n → AllByRecursion (λ (x : Raise). x.ring.seq < m) xs → AllByRecursion (λ (x : Raise). x.ring.seq < n) xs
+raises_wider : (m n : ℕ) (xs : List MarkRaise) → m ≤ n → AllByRecursion (λ (x : MarkRaise). x.ring.seq < m) xs → AllByRecursion (λ (x : MarkRaise). x.ring.seq < n) xs
 raises_wider m n [] l h = tt
 raises_wider m n (x ∷ xs) l h = (omega (arith, h.0), raises_wider m n xs l h.1)
 
@@ -53,7 +53,7 @@ module _ {A : Type 0} {c : Core A} {total : ℕ} {state : State} {running instal
     raises = raises_wider m n c.raises l b.raises;
   }
 
-pub bound_short : (s : State) (n : ℕ) → bound s n ≤ suc n
+pub bound_short : (s : State) (n : ℕ) → held_ring_bound s n ≤ suc n
 bound_short Gather n = omega arith
 bound_short Commit n = omega arith
 bound_short Recovery n = omega arith
@@ -104,7 +104,7 @@ module _ {A : Type 0} {c : Core A} {gather : Gatherer} {window : WindowHistory A
       {gather' : Gatherer} {window' : WindowHistory A} {visit' : TokenHistory A} {recovery' : Option (RecoveryState A)}
       → gather'.me ≡ gather.me → gather'.floor ≡ gather.floor
       → IsPart (changed c gathering last_sent queue held turns) c.installed.ring window' visit'
-      → IsBelow (changed c gathering last_sent queue held turns) (bound c.state (floor c))
+      → IsBelow (changed c gathering last_sent queue held turns) (held_ring_bound c.state (floor c))
       → (c.state ≡ Recovery → IsRecovering (changed c gathering last_sent queue held turns) recovery') → ((c.state ≡ Recovery → ⊥) → recovery' ≡ None)
       → IsRunningCore (changed c gathering last_sent queue held turns) gather' window' visit' recovery'
   machine_as one least kept below recovery_state over = record {

@@ -22,9 +22,9 @@ use Rattle.ring_wire.specs.declared.frame.Frame.TheVariants.{Commit as CommitFra
 use Rattle.ring_wire.specs.declared.message.Message.{Message}
 use Rattle.ring_window.specs.Held.{found, holds, of_ring, highest, front_of}
 use Rattle.ring_base.proofs.SameRing.{ring_same, same-self, lower_other}
-use Rattle.ring_window.specs.Windows.{WindowHistory, opened, window_after_forget}
-use Rattle.ring_token.specs.Turns.{TokenVisit, Raise, turns_of, mark_by, forwarded_in, raised_to, safe_mark}
-use Rattle.ring_token.specs.Histories.{TokenHistory, without_visits, with_raise, last_aru}
+use Rattle.ring_window.specs.Windows.{WindowHistory, window_opening, window_after_forget}
+use Rattle.ring_token.specs.TokenVisits.{TokenVisit, MarkRaise, visits_in_ring, mark_from_arus, forwarded_in, raised_to, safe_mark}
+use Rattle.ring_token.specs.Histories.{TokenHistory, without_visits, history_with_raise, last_aru}
 use Rattle.ring_join.specs.Gatherers.{Gatherer}
 use Rattle.ring_commit.specs.Reports.{reports_of, safe_of, none_behind, is_sound}
 use Rattle.ring_commit.specs.Rounds.{position_of_hop, receiver, hop_with_entries, is_of, is_own}
@@ -33,12 +33,12 @@ use Rattle.ring_recover.specs.Plans.{plan_of, plan_from, plan_if_sound, safe}
 use Rattle.ring_recover.specs.RecoveryState.{recovery_opening}
 use Rattle.ring_core_spec.specs.State.{Core, OutgoingFrame, floor}
 use Rattle.ring_core_spec.specs.Views.{front, mark, own_entry, entries_for, plan}
-use Rattle.ring_core_spec.specs.Giving.{users}
-use Rattle.ring_core_spec.specs.Handing.{commit_sent_on}
+use Rattle.ring_core_spec.specs.Giving.{user_messages_between}
+use Rattle.ring_core_spec.specs.CommitSteps.{commit_sent_on}
 use Rattle.ring_core_spec.proofs.Commits.{none_behind-at}
 use Rattle.ring_srp_transitions.specs.Allowing.{LearnAllowed}
 use Rattle.ring_srp_transitions.specs.Learns.{plan_at, safe_at}
-use Rattle.ring_srp_transitions.specs.RunningCores.{IsPart, IsBelow, bound, is_forming, Recovers, IsRunningCore, raises_of}
+use Rattle.ring_srp_transitions.specs.RunningCores.{IsPart, IsBelow, held_ring_bound, is_forming, Recovers, IsRunningCore, raises_of}
 use Rattle.ring_srp_state.specs.declared.recovery_state.RecoveryState.{RecoveryState}
 use Rattle.ring_srp_transitions.proofs.KeptByTransitions.{below_wider}
 use Rattle.ring_srp_transitions.proofs.Receivers.{receiver_member}
@@ -198,23 +198,23 @@ of_none : {A : Type 0} (ring : RingId) (held : List (Message A)) → AllByRecurs
 of_none ring [] h = refl
 of_none ring (x ∷ held) h = cond-false (same_ring x.ring ring) (x ∷ of_ring ring held) (of_ring ring held) (lower_other x.ring ring h.0) ∙ of_none ring held h.1
 
-turns_none : {A : Type 0} (ring : RingId) (turns : List (TokenVisit A)) → AllByRecursion (λ (v : TokenVisit A). v.received.ring.seq < ring.seq) turns → turns_of ring turns ≡ []
+turns_none : {A : Type 0} (ring : RingId) (turns : List (TokenVisit A)) → AllByRecursion (λ (v : TokenVisit A). v.received.ring.seq < ring.seq) turns → visits_in_ring ring turns ≡ []
 turns_none ring [] h = refl
-turns_none ring (v ∷ turns) h = cond-false (same_ring v.received.ring ring) (v ∷ turns_of ring turns) (turns_of ring turns) (lower_other v.received.ring ring h.0)
+turns_none ring (v ∷ turns) h = cond-false (same_ring v.received.ring ring) (v ∷ visits_in_ring ring turns) (visits_in_ring ring turns) (lower_other v.received.ring ring h.0)
     ∙ turns_none ring turns h.1
 
-raises_none : (ring : RingId) (raises : List Raise) → AllByRecursion (λ (x : Raise). x.ring.seq < ring.seq) raises → raises_of ring raises ≡ []
+raises_none : (ring : RingId) (raises : List MarkRaise) → AllByRecursion (λ (x : MarkRaise). x.ring.seq < ring.seq) raises → raises_of ring raises ≡ []
 raises_none ring [] h = refl
 raises_none ring (x ∷ raises) h = cond-false (same_ring x.ring ring) (x ∷ raises_of ring raises) (raises_of ring raises) (lower_other x.ring ring h.0)
     ∙ raises_none ring raises h.1
 
 -- the part of a ring of which there are no facts
 record IsNew {A : Type 0} (c : Core A) (ring : RingId) : Type 0 where
-  part : IsPart c ring (opened ring) (without_visits c.me ring)
+  part : IsPart c ring (window_opening ring) (without_visits c.me ring)
   seen : of_ring ring c.held ≡ []
   ended : in_front c.held ring ≡ []
   unsafe : mark c ring ≡ 0
-  unled : last_aru (turns_of ring c.turns) ≡ 0
+  unled : last_aru (visits_in_ring ring c.turns) ≡ 0
 
 is_new : {A : Type 0} (c : Core A) (ring : RingId) → IsBelow c ring.seq → IsNew c ring
 is_new c ring b =
@@ -224,9 +224,9 @@ is_new c ring b =
     let top : highest c.held ring ≡ 0 = ap (λ (xs : List (Message _)). greatest (map (λ (x : Message _). x.number) xs)) h in
     let f : front c ring ≡ 0 = ap (λ n. prefix_len (holds c.held ring) (numbers_from 1 n)) top in
     let m : mark c ring ≡ 0 =
-    ap (λ (vs : List (TokenVisit _)). max (mark_by (map (λ (v : TokenVisit _). v.forwarded.aru) vs)) (raised_to ring c.raises)) t
-    ∙ ap (λ (xs : List Raise). max 0 (greatest (map (λ (x : Raise). x.mark) xs))) r in
-    let l : last_aru (turns_of ring c.turns) ≡ 0 = ap last_aru t in
+    ap (λ (vs : List (TokenVisit _)). max (mark_from_arus (map (λ (v : TokenVisit _). v.forwarded.aru) vs)) (raised_to ring c.raises)) t
+    ∙ ap (λ (xs : List MarkRaise). max 0 (greatest (map (λ (x : MarkRaise). x.mark) xs))) r in
+    let l : last_aru (visits_in_ring ring c.turns) ≡ 0 = ap last_aru t in
     record {
       part = record {
         window_is = λ i. record { ring = ring; mark = sym m i; held = sym h i };
@@ -243,16 +243,16 @@ is_new c ring b =
 
 -- The mark of the old ring is raised
 
-abbrev raise_to : RingId → ℕ → Raise
+abbrev raise_to : RingId → ℕ → MarkRaise
 raise_to ring n = record { ring = ring; mark = n }
 
-raises_more : (ring : RingId) (raises : List Raise) (n : ℕ) → raises_of ring (raise_to ring n ∷ raises) ≡ raise_to ring n ∷ raises_of ring raises
+raises_more : (ring : RingId) (raises : List MarkRaise) (n : ℕ) → raises_of ring (raise_to ring n ∷ raises) ≡ raise_to ring n ∷ raises_of ring raises
 raises_more ring raises n = cond-true (same_ring ring ring) (raise_to ring n ∷ raises_of ring raises) (raises_of ring raises) (same-self ring)
 
-raised : {A : Type 0} (turns : List (TokenVisit A)) (raises : List Raise) (ring : RingId) (n : ℕ)
+raised : {A : Type 0} (turns : List (TokenVisit A)) (raises : List MarkRaise) (ring : RingId) (n : ℕ)
     → safe_mark turns (raise_to ring n ∷ raises) ring ≡ max (safe_mark turns raises ring) n
 raised turns raises ring n =
-    ap (λ (xs : List Raise). max (mark_by (forwarded_in ring turns)) (greatest (map (λ (x : Raise). x.mark) xs))) (raises_more ring raises n) ∙ omega arith
+    ap (λ (xs : List MarkRaise). max (mark_from_arus (forwarded_in ring turns)) (greatest (map (λ (x : MarkRaise). x.mark) xs))) (raises_more ring raises n) ∙ omega arith
 
 -- The core in Recovery
 
@@ -270,7 +270,7 @@ module _ {A : Type 0} {c : Core A} {gather : Gatherer} {window : WindowHistory A
   -- there are no facts of the running ring
   below : IsBelow (recovery_opened_by c last_sent k n) (floor c)
   below =
-      let e : bound c.state (floor c) ≡ floor c = ap (λ (x : State). bound x (floor c)) a.state in
+      let e : held_ring_bound c.state (floor c) ≡ floor c = ap (λ (x : State). held_ring_bound x (floor c)) a.state in
       let b : IsBelow c (floor c) = below_wider m.below (omega (arith, e)) in
       record { held = b.held; turns = b.turns; raises = (m.apart (ap is_forming a.state), b.raises) }
 
@@ -284,7 +284,7 @@ module _ {A : Type 0} {c : Core A} {gather : Gatherer} {window : WindowHistory A
   higher : mark (recovery_opened_by c last_sent k n) c.installed.ring ≡ max (mark c c.installed.ring) n
   higher = raised c.turns c.raises c.installed.ring n
 
-  old_part : IsPart (recovery_opened_by c last_sent k n) c.installed.ring (window_after_forget window n) (with_raise visit n)
+  old_part : IsPart (recovery_opened_by c last_sent k n) c.installed.ring (window_after_forget window n) (history_with_raise visit n)
   old_part =
       let ring = c.installed.ring in
       let up = higher in
@@ -292,14 +292,14 @@ module _ {A : Type 0} {c : Core A} {gather : Gatherer} {window : WindowHistory A
       record {
         window_is = ap (λ (x : WindowHistory A). window_after_forget x n) m.kept.window_is
             ∙ (λ i. record { ring = ring; mark = sym higher i; held = of_ring ring c.held });
-        visit_is = ap (λ (x : TokenHistory A). with_raise x n) m.kept.visit_is
-            ∙ (λ i. record { me = c.me; ring = ring; turns = turns_of ring c.turns; raises = sym (raises_more ring c.raises n) i });
+        visit_is = ap (λ (x : TokenHistory A). history_with_raise x n) m.kept.visit_is
+            ∙ (λ i. record { me = c.me; ring = ring; turns = visits_in_ring ring c.turns; raises = sym (raises_more ring c.raises n) i });
         reached = omega (arith, m.kept.reached, up, l, n_is);
         near = omega (arith, m.kept.near, up);
         led = m.kept.led;
       }
 
-  pub recovers : (r : RecoveryState A) → r.part.window ≡ opened c.running.ring → r.part.visit ≡ without_visits c.me c.running.ring → r.plan ≡ recovery_opening c.me (plan_at c k)
+  pub recovers : (r : RecoveryState A) → r.part.window ≡ window_opening c.running.ring → r.part.visit ≡ without_visits c.me c.running.ring → r.plan ≡ recovery_opening c.me (plan_at c k)
       → r.ends ≡ [] → r.most ≡ 0 → r.deferred.items ≡ [] → Recovers (recovery_opened_by c last_sent k n) r
   recovers r w v p e z x =
       let f = fresh in
@@ -310,7 +310,7 @@ module _ {A : Type 0} {c : Core A} {gather : Gatherer} {window : WindowHistory A
         part = record { window_is = w ∙ f.part.window_is; visit_is = v ∙ f.part.visit_is; reached = f.part.reached; near = f.part.near; led = f.part.led };
         plan_is = p ∙ (λ i. record { me = c.me; plan = sym planned i; seen = sym f.seen i });
         ends_is = e ∙ sym f.ended;
-        deferred_is = x ∙ ap (users (recovery_opened_by c last_sent k n) c.running.ring 0) (sym z);
+        deferred_is = x ∙ ap (user_messages_between (recovery_opened_by c last_sent k n) c.running.ring 0) (sym z);
         deferred_in_front = omega (arith, z);
         deferred_covers_mark = omega (arith, f.unsafe, z);
         deferred_covers_aru = omega (arith, f.unled, z);
@@ -318,7 +318,7 @@ module _ {A : Type 0} {c : Core A} {gather : Gatherer} {window : WindowHistory A
       }
 
   pub into_recovery : {r : RecoveryState A} → Recovers (recovery_opened_by c last_sent k n) r
-      → IsRunningCore (recovery_opened_by c last_sent k n) gather (window_after_forget window n) (with_raise visit n) (Some r)
+      → IsRunningCore (recovery_opened_by c last_sent k n) gather (window_after_forget window n) (history_with_raise visit n) (Some r)
   into_recovery now = record {
     runs = refl;
     gather_me = m.gather_me;

@@ -13,25 +13,25 @@ use Rattle.ring_window.specs.Bits.{held_bits}
 use Rattle.ring_window.specs.Windows.{WindowHistory}
 use Rattle.ring_base.proofs.SameRing.{ring_same}
 use Rattle.ring_window.proofs.OfRing.{highest_of_ring, front_of_ring, is_new_of_ring, held_bits_of_ring}
-use Rattle.ring_token.specs.Turns.{TokenVisit, Raise, turns_of, is_newer, is_accepted}
+use Rattle.ring_token.specs.TokenVisits.{TokenVisit, MarkRaise, visits_in_ring, is_newer, is_accepted}
 use Rattle.ring_token.specs.Histories.{TokenHistory}
 use Rattle.ring_core_spec.specs.State.{Core}
 use Rattle.ring_core_spec.specs.Views.{mark, front, own_entry, takes_number}
 use Rattle.ring_core_spec.specs.Visiting.{accepts}
 use Rattle.ring_srp_transitions.specs.RunningCores.{IsPart, window_of, raises_of}
 
-pub turns_twice : {A : Type 0} (turns : List (TokenVisit A)) (ring : RingId) → turns_of ring (turns_of ring turns) ≡ turns_of ring turns
+pub turns_twice : {A : Type 0} (turns : List (TokenVisit A)) (ring : RingId) → visits_in_ring ring (visits_in_ring ring turns) ≡ visits_in_ring ring turns
 turns_twice [] ring = refl
 turns_twice (v ∷ turns) ring = elim (cases_Bool (same_ring v.received.ring ring)) [
   | inl e ↦ rw (
-    cond-true (same_ring v.received.ring ring) (v ∷ turns_of ring turns) (turns_of ring turns) e,
-    cond-true (same_ring v.received.ring ring) (v ∷ turns_of ring (turns_of ring turns))
-        (turns_of ring (turns_of ring turns)) e,
+    cond-true (same_ring v.received.ring ring) (v ∷ visits_in_ring ring turns) (visits_in_ring ring turns) e,
+    cond-true (same_ring v.received.ring ring) (v ∷ visits_in_ring ring (visits_in_ring ring turns))
+        (visits_in_ring ring (visits_in_ring ring turns)) e,
   ) (ap (λ ys. v ∷ ys) (turns_twice turns ring))
-  | inr e ↦ rw (cond-false (same_ring v.received.ring ring) (v ∷ turns_of ring turns) (turns_of ring turns) e) (turns_twice turns ring)
+  | inr e ↦ rw (cond-false (same_ring v.received.ring ring) (v ∷ visits_in_ring ring turns) (visits_in_ring ring turns) e) (turns_twice turns ring)
 ]
 
-pub raises_twice : (raises : List Raise) (ring : RingId) → raises_of ring (raises_of ring raises) ≡ raises_of ring raises
+pub raises_twice : (raises : List MarkRaise) (ring : RingId) → raises_of ring (raises_of ring raises) ≡ raises_of ring raises
 raises_twice [] ring = refl
 raises_twice (x ∷ raises) ring = elim (cases_Bool (same_ring x.ring ring)) [
   | inl e ↦ rw (
@@ -50,18 +50,18 @@ none_passes true x y z p q e = absurd (true≢false e)
 -- Accepting
 
 same_accepted : {A : Type 0} (turns : List (TokenVisit A)) (held : List (Message A)) (ring : RingId) (t : Token) →
-    is_accepted ring (turns_of ring turns) (highest (of_ring ring held) ring) t ≡ is_accepted ring turns (highest held t.ring) t
+    is_accepted ring (visits_in_ring ring turns) (highest (of_ring ring held) ring) t ≡ is_accepted ring turns (highest held t.ring) t
 same_accepted {A} turns held ring t = elim (cases_Bool (same_ring t.ring ring)) [
   | inl e ↦
       (let r : t.ring ≡ ring = ring_same t.ring ring e in
-      let newer : is_newer (turns_of ring turns) t ≡ is_newer turns t =
-      ap (λ (q : RingId). list_all (λ (v : TokenVisit A). nat_lt v.received.number t.number) (turns_of q (turns_of ring turns))) r
+      let newer : is_newer (visits_in_ring ring turns) t ≡ is_newer turns t =
+      ap (λ (q : RingId). list_all (λ (v : TokenVisit A). nat_lt v.received.number t.number) (visits_in_ring q (visits_in_ring ring turns))) r
       ∙ ap (λ (vs : List (TokenVisit A)). list_all (λ (v : TokenVisit A). nat_lt v.received.number t.number) vs) (turns_twice turns ring)
-      ∙ sym (ap (λ (q : RingId). list_all (λ (v : TokenVisit A). nat_lt v.received.number t.number) (turns_of q turns)) r) in
+      ∙ sym (ap (λ (q : RingId). list_all (λ (v : TokenVisit A). nat_lt v.received.number t.number) (visits_in_ring q turns)) r) in
       let high : highest (of_ring ring held) ring ≡ highest held t.ring = highest_of_ring held ring ∙ sym (ap (λ (q : RingId). highest held q) r) in
       ap (λ b. same_ring t.ring ring && b && nat_lt t.number max_number && nat_le (highest (of_ring ring held) ring) t.seq) newer
       ∙ ap (λ h. same_ring t.ring ring && is_newer turns t && nat_lt t.number max_number && nat_le h t.seq) high)
-  | inr e ↦ none_passes (same_ring t.ring ring) (is_newer (turns_of ring turns) t) (nat_lt t.number max_number)
+  | inr e ↦ none_passes (same_ring t.ring ring) (is_newer (visits_in_ring ring turns) t) (nat_lt t.number max_number)
       (nat_le (highest (of_ring ring held) ring) t.seq) (is_newer turns t) (nat_le (highest held t.ring) t.seq) e
 ]
 

@@ -19,7 +19,7 @@ use Rattle.ring_commit.specs.Rounds.{proposal}
 use Rattle.ring_core_spec.specs.State.{Core, floor}
 use Rattle.ring_core_spec.specs.Views.{own_entry}
 use Rattle.ring_core_spec.specs.Joining.{proposes_in, proposes}
-use Rattle.ring_core_spec.specs.Handing.{ring_joined}
+use Rattle.ring_core_spec.specs.CommitSteps.{ring_joined}
 use Rattle.ring_core_spec.specs.Transitions.{without_sends, with_proposal_if}
 use Rattle.ring_core_spec.proofs.States.{proposes_gathering}
 

@@ -15,17 +15,17 @@ use Rattle.ring_wire.specs.declared.token.Token.{Token}
 use Rattle.ring_window.specs.Held.{of_ring, highest, front_of, missing}
 use Rattle.ring_window.specs.Windows.{WindowHistory, window_after_forget}
 use Rattle.ring_window.proofs.OfRing.{missing_of_ring}
-use Rattle.ring_token.specs.Turns.{TokenVisit, Raise, turns_of, mark_by, forwarded_in, raised_to, safe_mark}
+use Rattle.ring_token.specs.TokenVisits.{TokenVisit, MarkRaise, visits_in_ring, mark_from_arus, forwarded_in, raised_to, safe_mark}
 use Rattle.ring_token.specs.Visits.{requests_after}
-use Rattle.ring_token.specs.Histories.{TokenHistory, turn_by, with_turn, mark_of, last_aru}
+use Rattle.ring_token.specs.Histories.{TokenHistory, visit_made, history_with_visit, mark_of, last_aru}
 use Rattle.ring_join.specs.Gatherers.{Gatherer}
 use Rattle.ring_commit.specs.declared.configuration.Configuration.{Configuration}
 use Rattle.ring_recover.specs.Plans.{safe}
 use Rattle.ring_core_spec.specs.State.{Core, OutgoingFrame, floor}
 use Rattle.ring_core_spec.specs.Views.{front, mark, plan}
-use Rattle.ring_srp_state.specs.declared.ring_part.RingPart.{RingPart}
+use Rattle.ring_srp_state.specs.declared.ring_part.WindowAndVisits.{WindowAndVisits}
 use Rattle.ring_srp_state.specs.declared.recovery_state.RecoveryState.{RecoveryState}
-use Rattle.ring_srp_transitions.specs.RunningCores.{IsPart, IsBelow, bound, is_forming, is_running, window_of, visits_of, raises_of, Recovers, IsRunningCore}
+use Rattle.ring_srp_transitions.specs.RunningCores.{IsPart, IsBelow, held_ring_bound, is_forming, is_running, window_of, visits_of, raises_of, Recovers, IsRunningCore}
 use Rattle.ring_srp_transitions.specs.Passing.{token_passed_on}
 use Rattle.ring_srp_state.specs.Setting.{turn_in, HasDeferred}
 use Rattle.ring_srp_state.specs.Users.{users_in}
@@ -35,11 +35,11 @@ use Rattle.ring_srp_transitions.proofs.OneRingOfCore.{turns_twice, raises_twice}
 use Rattle.ring_srp_state.proofs.OneVisitMore.{turned, unturned, mark_unturned, mark_within, mark_risen, led_turned, led_unturned, aru_within}
 
 -- the mark from the visits of one ring is the core's
-mark_of_visits : {A : Type 0} (me : ℕ) (turns : List (TokenVisit A)) (raises : List Raise) (ring : RingId) →
-    mark_of (record { me = me; ring = ring; turns = turns_of ring turns; raises = raises_of ring raises }) ≡ safe_mark turns raises ring
+mark_of_visits : {A : Type 0} (me : ℕ) (turns : List (TokenVisit A)) (raises : List MarkRaise) (ring : RingId) →
+    mark_of (record { me = me; ring = ring; turns = visits_in_ring ring turns; raises = raises_of ring raises }) ≡ safe_mark turns raises ring
 mark_of_visits {A} me turns raises ring =
-    ap (λ (vs : List (TokenVisit A)). max (mark_by (map (λ (x : TokenVisit A). x.forwarded.aru) vs)) (raised_to ring (raises_of ring raises))) (turns_twice turns ring)
-    ∙ ap (λ (xs : List Raise). max (mark_by (forwarded_in ring turns)) (greatest (map (λ (x : Raise). x.mark) xs))) (raises_twice raises ring)
+    ap (λ (vs : List (TokenVisit A)). max (mark_from_arus (map (λ (x : TokenVisit A). x.forwarded.aru) vs)) (raised_to ring (raises_of ring raises))) (turns_twice turns ring)
+    ∙ ap (λ (xs : List MarkRaise). max (mark_from_arus (forwarded_in ring turns)) (greatest (map (λ (x : MarkRaise). x.mark) xs))) (raises_twice raises ring)
 
 -- The part of one ring
 
@@ -50,7 +50,7 @@ after_turn c v x = record c { turns = v ∷ c.turns; last_sent = x }
 module _ {A : Type 0} {c : Core A} {ring : RingId} {w : WindowHistory A} {h : TokenHistory A} (p : IsPart c ring w h) where
   -- the visit is the one that the core makes
   pub turn_is : (t : Token) (remaining_requests : List ℕ) (fresh : List (Payload A)) → t.ring ≡ ring →
-      turn_in w h t remaining_requests fresh ≡ turn_by c.me (front_of c.held t.ring) fresh
+      turn_in w h t remaining_requests fresh ≡ visit_made c.me (front_of c.held t.ring) fresh
       (requests_after remaining_requests (missing c.held t.ring (mark c t.ring) (t.seq + length fresh))) t
   turn_is t remaining_requests fresh e =
       let upto = t.seq + length fresh in
@@ -59,9 +59,9 @@ module _ {A : Type 0} {c : Core A} {ring : RingId} {w : WindowHistory A} {h : To
       let lacks : missing w.held w.ring w.mark upto ≡ missing c.held t.ring (mark c t.ring) upto =
       ap (λ (u : WindowHistory A). missing u.held u.ring u.mark upto) p.window_is ∙ missing_of_ring c.held ring (mark c ring) upto
       ∙ sym (ap (λ (q : RingId). missing c.held q (mark c q) upto) e) in
-      ap (λ n. turn_by n (front_of w.held w.ring) fresh (requests_after remaining_requests (missing w.held w.ring w.mark upto)) t) me
-      ∙ ap (λ n. turn_by c.me n fresh (requests_after remaining_requests (missing w.held w.ring w.mark upto)) t) f
-      ∙ ap (λ ns. turn_by c.me (front_of c.held t.ring) fresh (requests_after remaining_requests ns) t) lacks
+      ap (λ n. visit_made n (front_of w.held w.ring) fresh (requests_after remaining_requests (missing w.held w.ring w.mark upto)) t) me
+      ∙ ap (λ n. visit_made c.me n fresh (requests_after remaining_requests (missing w.held w.ring w.mark upto)) t) f
+      ∙ ap (λ ns. visit_made c.me (front_of c.held t.ring) fresh (requests_after remaining_requests ns) t) lacks
 
   -- the requirements of a visit
   pub part_ring : h.ring ≡ ring
@@ -70,10 +70,10 @@ module _ {A : Type 0} {c : Core A} {ring : RingId} {w : WindowHistory A} {h : To
   pub part_reached : mark_of h ≤ front_of w.held w.ring
   part_reached = omega (arith, ap mark_of p.visit_is ∙ mark_of_visits c.me c.turns c.raises ring, front_by c ring w h p, p.reached)
 
-  pub part_led : last_aru (turns_of h.ring h.turns) ≤ front_of w.held w.ring
+  pub part_led : last_aru (visits_in_ring h.ring h.turns) ≤ front_of w.held w.ring
   part_led = omega (
     arith,
-    ap (λ (y : TokenHistory A). last_aru (turns_of y.ring y.turns)) p.visit_is
+    ap (λ (y : TokenHistory A). last_aru (visits_in_ring y.ring y.turns)) p.visit_is
         ∙ ap (λ (vs : List (TokenVisit A)). last_aru vs) (turns_twice c.turns ring),
     front_by c ring w h p,
     p.led,
@@ -88,17 +88,17 @@ module _ {A : Type 0} {c : Core A} {ring : RingId} {w : WindowHistory A} {h : To
 
 module _ {A : Type 0} (c : Core A) (ring : RingId) (w : WindowHistory A) (h : TokenHistory A) (v : TokenVisit A) (x : Option (OutgoingFrame A)) (p : IsPart c ring w h) where
   -- for the ring that is visited
-  pub part_turned : v.received.ring ≡ ring → v.forwarded.aru ≤ front c ring → IsPart (after_turn c v x) ring (window_after_forget w (mark_of (with_turn h v))) (with_turn h v)
+  pub part_turned : v.received.ring ≡ ring → v.forwarded.aru ≤ front c ring → IsPart (after_turn c v x) ring (window_after_forget w (mark_of (history_with_visit h v))) (history_with_visit h v)
   part_turned e l =
       let as_window : ℕ → WindowHistory A = λ n. record { ring = ring; mark = n; held = of_ring ring c.held } in
       let as_visits : List (TokenVisit A) → TokenHistory A = λ vs. record { me = c.me; ring = ring; turns = vs; raises = raises_of ring c.raises } in
-      let told : with_turn h v ≡ visits_of (after_turn c v x) ring = ap (λ (y : TokenHistory A). with_turn y v) p.visit_is
+      let told : history_with_visit h v ≡ visits_of (after_turn c v x) ring = ap (λ (y : TokenHistory A). history_with_visit y v) p.visit_is
       ∙ ap as_visits (sym (turned v c.turns ring e)) in
-      let m : mark_of (with_turn h v) ≡ mark (after_turn c v x) ring = ap mark_of told ∙ mark_of_visits c.me (v ∷ c.turns) c.raises ring in
+      let m : mark_of (history_with_visit h v) ≡ mark (after_turn c v x) ring = ap mark_of told ∙ mark_of_visits c.me (v ∷ c.turns) c.raises ring in
       let risen : mark c ring ≤ mark (after_turn c v x) ring = mark_risen v c.turns c.raises ring e in
-      let n : max (mark c ring) (mark_of (with_turn h v)) ≡ mark (after_turn c v x) ring = greater _ _ _ m risen in
+      let n : max (mark c ring) (mark_of (history_with_visit h v)) ≡ mark (after_turn c v x) ring = greater _ _ _ m risen in
       record {
-        window_is = ap (λ (u : WindowHistory A). window_after_forget u (mark_of (with_turn h v))) p.window_is ∙ ap as_window n;
+        window_is = ap (λ (u : WindowHistory A). window_after_forget u (mark_of (history_with_visit h v))) p.window_is ∙ ap as_window n;
         visit_is = told;
         reached = mark_within v c.turns c.raises ring (front c ring) e p.led p.reached;
         near = near_on _ _ _ risen p.near;
@@ -130,7 +130,7 @@ module _ {A : Type 0} (c : Core A) (ring : RingId) (w : WindowHistory A) (h : To
 -- more messages are deferred
 pub recovers_deferred : {A : Type 0} {c : Core A} {r r' : RecoveryState A} → Recovers c r → HasDeferred r r' → Recovers c r'
 recovers_deferred {A} {c} {r'} m s =
-    let part = subst (λ (q : RingPart A). IsPart c c.running.ring q.window q.visit) (sym s.part) m.part in
+    let part = subst (λ (q : WindowAndVisits A). IsPart c c.running.ring q.window q.visit) (sym s.part) m.part in
     let window : r'.part.window ≡ window_of c c.running.ring = part.window_is in
     let far : front_of r'.part.window.held r'.part.window.ring ≡ front c c.running.ring = front_by c c.running.ring r'.part.window r'.part.visit part in
     record {
@@ -156,7 +156,7 @@ deferred_there {A} {c} {r} m = m.deferred_is ∙ sym (ap (λ (w : WindowHistory 
 
 -- the part of the running ring after its token was forwarded
 abbrev pub turned_in : {A : Type 0} → RecoveryState A → TokenVisit A → RecoveryState A
-turned_in r v = record r { part = record { window = window_after_forget r.part.window (mark_of (with_turn r.part.visit v)); visit = with_turn r.part.visit v } }
+turned_in r v = record r { part = record { window = window_after_forget r.part.window (mark_of (history_with_visit r.part.visit v)); visit = history_with_visit r.part.visit v } }
 
 recovers_turned : {A : Type 0} (c : Core A) (r : RecoveryState A) (v : TokenVisit A) (x : Option (OutgoingFrame A)) → Recovers c r →
     same_ring v.received.ring c.installed.ring ≡ false →
@@ -174,7 +174,7 @@ recovers_turned c r v x m apart e l all = record {
 
 -- Every state
 
-bound_running : (s : State) (n : ℕ) → is_running s ≡ true → bound s n ≡ suc n
+bound_running : (s : State) (n : ℕ) → is_running s ≡ true → held_ring_bound s n ≡ suc n
 bound_running Recovery n h = refl
 bound_running Operational n h = refl
 bound_running Gather n h = absurd (true≢false (sym h))
@@ -193,8 +193,8 @@ recovery_no_operational : (s : State) → s ≡ Recovery → s ≡ Operational �
 recovery_no_operational s e f = (let q : Recovery ≡ Operational = sym e ∙ f in cc)
 
 -- a visit of the running ring is below the bound
-below_turned : {A : Type 0} {c : Core A} {v : TokenVisit A} {x : Option (OutgoingFrame A)} → IsBelow c (bound c.state (floor c)) → is_running c.state ≡ true
-    → v.received.ring ≡ c.running.ring → IsBelow (after_turn c v x) (bound c.state (floor c))
+below_turned : {A : Type 0} {c : Core A} {v : TokenVisit A} {x : Option (OutgoingFrame A)} → IsBelow c (held_ring_bound c.state (floor c)) → is_running c.state ≡ true
+    → v.received.ring ≡ c.running.ring → IsBelow (after_turn c v x) (held_ring_bound c.state (floor c))
 below_turned {c} b runs e =
     record { held = b.held; turns = (omega (arith, ap (λ (q : RingId). q.seq) e, bound_running c.state (floor c) runs), b.turns); raises = b.raises }
 
@@ -229,7 +229,7 @@ module _ {A : Type 0} {c : Core A} {gather : Gatherer} {window : WindowHistory A
   pub installed_on : {recovery : Option (RecoveryState A)} {last_sent : Option (OutgoingFrame A)} (t : Token) (remaining_requests : List ℕ) (fresh : List (Payload A))
       → IsRunningCore c gather window visit recovery → c.state ≡ Operational → t.ring ≡ c.running.ring
       → IsRunningCore (after_turn c (turn_in window visit t remaining_requests fresh) last_sent) gather
-      (window_after_forget window (mark_of (with_turn visit (turn_in window visit t remaining_requests fresh)))) (with_turn visit (turn_in window visit t remaining_requests fresh)) recovery
+      (window_after_forget window (mark_of (history_with_visit visit (turn_in window visit t remaining_requests fresh)))) (history_with_visit visit (turn_in window visit t remaining_requests fresh)) recovery
   installed_on {last_sent} t remaining_requests fresh m is e =
       let v = turn_in window visit t remaining_requests fresh in
       let here : t.ring ≡ c.installed.ring = e ∙ sym (ap (λ (q : Configuration). q.ring) (m.same is)) in

@@ -6,12 +6,12 @@ use Rattle.std.proofs.lemmas.Bool.{cond_both}
 use Rattle.std.proofs.lemmas.List.Elements.{filter_map-append}
 use Rattle.ring_base.specs.declared.ring_id.RingId.{RingId}
 use Rattle.ring_wire.specs.declared.message.Message.{Message}
-use Rattle.ring_recover.specs.Deliveries.{rests}
+use Rattle.ring_recover.specs.Deliveries.{rest_messages}
 use Rattle.ring_core_spec.specs.declared.out.Out.{Out}
 use Rattle.ring_core_spec.specs.declared.out.Out.TheVariants.{Agreed, Safe, Rest, Regular}
 use Rattle.ring_core_spec.specs.State.{Core}
 use Rattle.ring_core_spec.specs.Views.{front, mark, plan}
-use Rattle.ring_core_spec.specs.Giving.{send_of, users, agreed_from, safe_from, delivered_from, settle}
+use Rattle.ring_core_spec.specs.Giving.{send_of, user_messages_between, agreed_from, safe_from, delivered_from, with_installation_if}
 
 none_among : {A B : Type 0} (f : B → Out A) (xs : List B) → ((x : B) → send_of (f x) ≡ None) → filter_map send_of (map f xs) ≡ []
 none_among f [] h = refl
@@ -24,14 +24,14 @@ none_both a b f g = filter_map-append send_of a b ∙ ap (λ xs. xs ++ filter_ma
 pub none_delivered : {A : Type 0} (c : Core A) (ring : RingId) (reached safe : ℕ) → filter_map send_of (delivered_from c ring reached safe) ≡ []
 none_delivered {A} c ring reached safe =
     none_both (agreed_from c ring reached) (safe_from c ring safe)
-    (none_among (λ (x : Message A). Agreed ring x.number x) (users c ring reached (front c ring)) (λ x. refl))
+    (none_among (λ (x : Message A). Agreed ring x.number x) (user_messages_between c ring reached (front c ring)) (λ x. refl))
     (cond_both (nat_lt safe (mark c ring)) (Safe ring (mark c ring) ∷ []) [] (λ (outs : List (Out A)). filter_map send_of outs ≡ [])
     (λ e. refl) (λ e. refl))
 
 -- the outputs of an installation
-pub none_settled : {A : Type 0} (b : Bool) (c : Core A) → filter_map send_of (settle b c []).outs ≡ []
+pub none_settled : {A : Type 0} (b : Bool) (c : Core A) → filter_map send_of (with_installation_if b c []).outs ≡ []
 none_settled false c = refl
 none_settled {A} true c =
     let rest = λ (x : Message A). Rest x.ring x.number x in
-    none_both (map rest (rests (plan c) c.held)) (Regular c.running.ring c.running.members ∷ delivered_from c c.running.ring 0 0)
-    (none_among rest (rests (plan c) c.held) (λ x. refl)) (none_delivered c c.running.ring 0 0)
+    none_both (map rest (rest_messages (plan c) c.held)) (Regular c.running.ring c.running.members ∷ delivered_from c c.running.ring 0 0)
+    (none_among rest (rest_messages (plan c) c.held) (λ x. refl)) (none_delivered c c.running.ring 0 0)

@@ -2,7 +2,7 @@
 use Rattle.std.proofs.Common.{◌≡◌, ℕ, ◌+◌, ◌-◌, map, filter, filter_map, Option, ap, ◌∙◌}
 use Rattle.ring_base.specs.Numbers.{numbers_from}
 use Rattle.ring_base.specs.declared.ring_id.RingId.{RingId}
-use Rattle.ring_payload.specs.Kinds.{is_user}
+use Rattle.ring_payload.specs.PayloadKinds.{is_user}
 use Rattle.ring_wire.specs.declared.message.Message.{Message}
 use Rattle.ring_window.specs.Held.{of_ring, front_of}
 use Rattle.ring_window.specs.Windows.{WindowHistory}
@@ -11,11 +11,11 @@ use Rattle.ring_token.specs.Histories.{TokenHistory}
 use Rattle.ring_core_spec.specs.declared.out.Out.TheVariants.{Agreed}
 use Rattle.ring_core_spec.specs.State.{Core}
 use Rattle.ring_core_spec.specs.Views.{front, mark}
-use Rattle.ring_core_spec.specs.Giving.{users, agreed_from, safe_from}
+use Rattle.ring_core_spec.specs.Giving.{user_messages_between, agreed_from, safe_from}
 use Rattle.ring_srp_state.specs.Users.{users_in, agreed_in, safe_to}
 use Rattle.ring_srp_transitions.specs.RunningCores.{IsPart, window_of}
 
-pub users_of : {A : Type 0} (c : Core A) (ring : RingId) (below upto : ℕ) → users_in (window_of c ring) below upto ≡ users c ring below upto
+pub users_of : {A : Type 0} (c : Core A) (ring : RingId) (below upto : ℕ) → users_in (window_of c ring) below upto ≡ user_messages_between c ring below upto
 users_of {A} c ring below upto = ap (λ (h : ℕ → Option (Message A)). filter (λ (x : Message A). is_user x.payload)
     (filter_map h (numbers_from (below + 1) (upto - below)))) (all_found c.held ring)
 

@@ -22,19 +22,19 @@ use Rattle.ring_wire.specs.declared.frame.Frame.TheVariants.{Message as MessageF
 use Rattle.ring_wire.specs.declared.message.Message.{Message}
 use Rattle.ring_wire.specs.declared.token.Token.{Token}
 use Rattle.ring_window.specs.Held.{found, holds, of_ring, highest, is_new}
-use Rattle.ring_window.specs.Windows.{WindowHistory, kept}
+use Rattle.ring_window.specs.Windows.{WindowHistory, message_above_mark}
 use Rattle.ring_window.proofs.HeldFront.{front_short, highest_covers}
 use Rattle.ring_window.proofs.OfRing.{found_of_ring, holds_of_ring}
 use Rattle.ring_base.proofs.SameRing.{ring_same}
 use Rattle.ring_token.specs.Histories.{TokenHistory, mark_of}
-use Rattle.ring_token.specs.Turns.{TokenVisit, Raise, turns_of, is_newer, mark_by, raised_to}
-use Rattle.ring_token.specs.Visits.{is_left, requests_left, above_mark, room, numbered}
+use Rattle.ring_token.specs.TokenVisits.{TokenVisit, MarkRaise, visits_in_ring, is_newer, mark_from_arus, raised_to}
+use Rattle.ring_token.specs.Visits.{stays_requested, requests_left, above_mark, max_new_messages, numbered}
 use Rattle.ring_commit.specs.declared.configuration.Configuration.{Configuration}
 use Rattle.ring_join.specs.Gatherers.{Gatherer}
-use Rattle.ring_core_spec.specs.Giving.{addressed}
+use Rattle.ring_core_spec.specs.Giving.{sends_with_receivers}
 use Rattle.ring_core_spec.specs.State.{Core, OutgoingFrame}
 use Rattle.ring_core_spec.specs.Views.{front, mark, takes_number}
-use Rattle.ring_core_spec.specs.Visiting.{accepts, repeated, room_at, new_payloads, new_messages, queue_after, to_others, to_next, token_forwarded}
+use Rattle.ring_core_spec.specs.Visiting.{accepts, messages_sent_again, room_at, new_payloads, new_messages, queue_after, to_others, to_next, token_forwarded}
 use Rattle.ring_core_spec.specs.Visiting.{token_visited}
 use Rattle.ring_srp_state.specs.declared.recovery_state.RecoveryState.{RecoveryState}
 use Rattle.ring_core_spec.proofs.States.{offers_few}
@@ -51,12 +51,12 @@ no_payloads (p ∷ payloads) e = absurd cc
 -- Sends
 
 -- the sends of two lists are those of each
-pub addressed-append : {A : Type 0} (a b : List (OutgoingFrame A)) → addressed (a ++ b) ≡ addressed a ++ addressed b
-addressed-append {A} a b = filter-append (λ (s : OutgoingFrame A). not (s.to == nobody)) a b
+pub sends_with_receivers-append : {A : Type 0} (a b : List (OutgoingFrame A)) → sends_with_receivers (a ++ b) ≡ sends_with_receivers a ++ sends_with_receivers b
+sends_with_receivers-append {A} a b = filter-append (λ (s : OutgoingFrame A). not (s.to == nobody)) a b
 
 -- one more send
-addressed-push : {A : Type 0} (sends : List (OutgoingFrame A)) (a b : List (OutgoingFrame A)) → sends ++ addressed (a ++ b) ≡ (sends ++ addressed a) ++ addressed b
-addressed-push sends a b = ap (λ s. sends ++ s) (addressed-append a b) ∙ sym (append_assoc sends (addressed a) (addressed b))
+sends_with_receivers-push : {A : Type 0} (sends : List (OutgoingFrame A)) (a b : List (OutgoingFrame A)) → sends ++ sends_with_receivers (a ++ b) ≡ (sends ++ sends_with_receivers a) ++ sends_with_receivers b
+sends_with_receivers-push sends a b = ap (λ s. sends ++ s) (sends_with_receivers-append a b) ∙ sym (append_assoc sends (sends_with_receivers a) (sends_with_receivers b))
 
 abbrev pub to_all : {A : Type 0} → Core A → Message A → OutgoingFrame A
 to_all c x = record { to = less c.running.members (only c.me); frame = MessageFrame x }
@@ -131,9 +131,9 @@ mark_behind c window visit t p a =
 -- the visits of one ring decide its safe mark
 mark_of-visits : {A : Type 0} (c : Core A) (ring : RingId) → mark_of (visits_of c ring) ≡ mark c ring
 mark_of-visits {A} c ring =
-    ap (λ (vs : List (TokenVisit A)). max (mark_by (map (λ (v : TokenVisit A). v.forwarded.aru) vs)) (raised_to ring (raises_of ring c.raises))) (turns_twice c.turns ring)
-    ∙ ap (λ (xs : List Raise). max (mark_by (map (λ (v : TokenVisit A). v.forwarded.aru) (turns_of ring c.turns)))
-    (greatest (map (λ (x : Raise). x.mark) xs))) (raises_twice c.raises ring)
+    ap (λ (vs : List (TokenVisit A)). max (mark_from_arus (map (λ (v : TokenVisit A). v.forwarded.aru) vs)) (raised_to ring (raises_of ring c.raises))) (turns_twice c.turns ring)
+    ∙ ap (λ (xs : List MarkRaise). max (mark_from_arus (map (λ (v : TokenVisit A). v.forwarded.aru) (visits_in_ring ring c.turns)))
+    (greatest (map (λ (x : MarkRaise). x.mark) xs))) (raises_twice c.raises ring)
 
 pub mark_by_visits : {A : Type 0} (c : Core A) (window : WindowHistory A) (visit : TokenHistory A) (t : Token)
     → IsPart c c.running.ring window visit → accepts c t ≡ true →
@@ -153,13 +153,13 @@ holds_by c window visit t n p a =
 
 pub stays_ascending : {A : Type 0} (c : Core A) (t : Token) → IsStrictlyIncreasing t.requests → IsStrictlyIncreasing
     (requests_left (mark c t.ring) (holds c.held t.ring) t.requests)
-stays_ascending c t h = IsStrictlyIncreasing-filter (is_left (mark c t.ring) (holds c.held t.ring)) t.requests h
+stays_ascending c t h = IsStrictlyIncreasing-filter (stays_requested (mark c t.ring) (holds c.held t.ring)) t.requests h
 
 -- Requested messages that are sent again
 
 -- the messages of these numbers that are sent again
 abbrev pub again : {A : Type 0} → Core A → Token → List ℕ → List (OutgoingFrame A)
-again c t numbers = addressed (to_others c (filter_map (found c.held t.ring) (above_mark (mark c t.ring) numbers)))
+again c t numbers = sends_with_receivers (to_others c (filter_map (found c.held t.ring) (above_mark (mark c t.ring) numbers)))
 
 -- the messages sent so far, and those of the remaining numbers, are all
 abbrev pub AreRepeated : {A : Type 0} → Core A → Token → List (OutgoingFrame A) → List (OutgoingFrame A) → ℕ → Type 0
@@ -168,9 +168,9 @@ AreRepeated c t old sends i = sends ++ again c t (drop i t.requests) ≡ old ++ 
 -- the window keeps the message of a number, if it is above the mark
 kept_by : {A : Type 0} (c : Core A) (window : WindowHistory A) (visit : TokenHistory A) (t : Token) (n : ℕ)
     → IsPart c c.running.ring window visit → accepts c t ≡ true →
-    kept window n ≡ (if nat_lt (mark c t.ring) n then found c.held t.ring n else None)
+    message_above_mark window n ≡ (if nat_lt (mark c t.ring) n then found c.held t.ring n else None)
 kept_by c window visit t n p a =
-    ap (λ (w : WindowHistory _). kept w n) p.window_is
+    ap (λ (w : WindowHistory _). message_above_mark w n) p.window_is
     ∙ ap (λ (o : Option (Message _)). if nat_lt (mark c c.running.ring) n then o else None) (found_of_ring c.held c.running.ring n)
     ∙ ap (λ (r : RingId). if nat_lt (mark c r) n then found c.held r n else None) (sym (passing c t a).ring)
 
@@ -192,30 +192,30 @@ module _ {A : Type 0} (c : Core A) (window : WindowHistory A) (visit : TokenHist
 
   -- no message of this number is sent
   pub repeated_less : (n : ℕ) → IsPart c c.running.ring window visit → accepts c t ≡ true → i < length t.requests
-      → n ≡ get_or t.requests i 0 → kept window n ≡ None →
+      → n ≡ get_or t.requests i 0 → message_above_mark window n ≡ None →
       AreRepeated c t old sends i → AreRepeated c t old sends (i + 1)
   repeated_less n p a l at k r =
       let d : drop i t.requests ≡ n ∷ drop (i + 1) t.requests = drop_more t.requests i 0 l ∙ ap (λ m. m ∷ drop (i + 1) t.requests) (sym at) in
       let none : (if nat_lt (mark c t.ring) n then found c.held t.ring n else None) ≡ None = sym (kept_by c window visit t n p a) ∙ k in
       let rest = filter_map (found c.held t.ring) (above_mark (mark c t.ring) (drop (i + 1) t.requests)) in
       let e : again c t (drop i t.requests) ≡ again c t (drop (i + 1) t.requests) =
-      ap (again c t) d ∙ ap (λ xs. addressed (to_others c xs)) (found_first c t n (drop (i + 1) t.requests) ∙ ap (λ o. cons_option o rest) none) in
+      ap (again c t) d ∙ ap (λ xs. sends_with_receivers (to_others c xs)) (found_first c t n (drop (i + 1) t.requests) ∙ ap (λ o. cons_option o rest) none) in
       ap (λ s. sends ++ s) (sym e) ∙ r
 
   -- this message is sent
   pub repeated_more : (n : ℕ) (x : Message A) (after : List (OutgoingFrame A)) → IsPart c c.running.ring window visit
       → accepts c t ≡ true → i < length t.requests → n ≡ get_or t.requests i 0 →
-      kept window n ≡ Some x → after ≡ sends ++ addressed (to_all c x ∷ []) → AreRepeated c t old sends i → AreRepeated c t old after (i + 1)
+      message_above_mark window n ≡ Some x → after ≡ sends ++ sends_with_receivers (to_all c x ∷ []) → AreRepeated c t old sends i → AreRepeated c t old after (i + 1)
   repeated_more n x after p a l at k s r =
       let d : drop i t.requests ≡ n ∷ drop (i + 1) t.requests = drop_more t.requests i 0 l ∙ ap (λ m. m ∷ drop (i + 1) t.requests) (sym at) in
       let some : (if nat_lt (mark c t.ring) n then found c.held t.ring n else None) ≡ Some x = sym (kept_by c window visit t n p a) ∙ k in
       let rest = filter_map (found c.held t.ring) (above_mark (mark c t.ring) (drop (i + 1) t.requests)) in
-      let e : again c t (drop i t.requests) ≡ addressed (to_all c x ∷ []) ++ again c t (drop (i + 1) t.requests) =
+      let e : again c t (drop i t.requests) ≡ sends_with_receivers (to_all c x ∷ []) ++ again c t (drop (i + 1) t.requests) =
       ap (again c t) d
-      ∙ ap (λ xs. addressed (to_others c xs)) (found_first c t n (drop (i + 1) t.requests) ∙ ap (λ o. cons_option o rest) some)
-      ∙ addressed-append (to_all c x ∷ []) (to_others c rest) in
+      ∙ ap (λ xs. sends_with_receivers (to_others c xs)) (found_first c t n (drop (i + 1) t.requests) ∙ ap (λ o. cons_option o rest) some)
+      ∙ sends_with_receivers-append (to_all c x ∷ []) (to_others c rest) in
       ap (λ o. o ++ again c t (drop (i + 1) t.requests)) s
-      ∙ append_assoc sends (addressed (to_all c x ∷ [])) (again c t (drop (i + 1) t.requests))
+      ∙ append_assoc sends (sends_with_receivers (to_all c x ∷ [])) (again c t (drop (i + 1) t.requests))
       ∙ ap (λ s. sends ++ s) (sym e)
       ∙ r
 
@@ -261,10 +261,10 @@ above_new held mark ring n h a b =
     ]
 
 module _ {A : Type 0} (c : Core A) (t : Token) (ps : List (Payload A)) (p : Payload A) (n count : ℕ) where
-  pub number_next : n ≡ t.seq + length ps → length ps < count → count ≤ room (mark c t.ring) t.seq → n + 1 ≤ max_number
+  pub number_next : n ≡ t.seq + length ps → length ps < count → count ≤ max_new_messages (mark c t.ring) t.seq → n + 1 ≤ max_number
   number_next e l r = omega arith
 
-  pub next_new : accepts c t ≡ true → mark c t.ring ≤ t.seq → n ≡ t.seq + length ps → length ps < count → count ≤ room (mark c t.ring) t.seq →
+  pub next_new : accepts c t ≡ true → mark c t.ring ≤ t.seq → n ≡ t.seq + length ps → length ps < count → count ≤ max_new_messages (mark c t.ring) t.seq →
       takes_number (holding c t ps) t.ring (n + 1) ≡ true
   next_new a m e l r =
       let h : highest (reverse (messages_of_payloads c t ps) ++ c.held) t.ring ≤ t.seq + length ps = highest-numbered t.ring c.me t.seq ps c.held (passing c t a).high in
@@ -291,22 +291,22 @@ module _ {A : Type 0} (c : Core A) (t : Token) (ps : List (Payload A)) (p : Payl
   -- one more message is sent
   pub sends_more : (x : Message A) (old sends after : List (OutgoingFrame A)) → n ≡ t.seq + length ps
       → x ≡ record { ring = t.ring; number = n + 1; sender = c.me; payload = p } →
-      sends ≡ old ++ addressed (to_others c (messages_of_payloads c t ps)) → after ≡ sends ++ addressed (to_all c x ∷ [])
-      → after ≡ old ++ addressed (to_others c (messages_of_payloads c t (ps ++ p ∷ [])))
+      sends ≡ old ++ sends_with_receivers (to_others c (messages_of_payloads c t ps)) → after ≡ sends ++ sends_with_receivers (to_all c x ∷ [])
+      → after ≡ old ++ sends_with_receivers (to_others c (messages_of_payloads c t (ps ++ p ∷ [])))
   sends_more x old sends after e same f g =
-      g ∙ ap (λ o. o ++ addressed (to_all c x ∷ [])) f
-      ∙ sym (addressed-push old (to_others c (messages_of_payloads c t ps)) (to_all c x ∷ []))
-      ∙ ap (λ s. old ++ addressed s) (sym (ap (to_others c) (news_more e ∙ ap (λ y. messages_of_payloads c t ps ++ y ∷ []) (sym same))
+      g ∙ ap (λ o. o ++ sends_with_receivers (to_all c x ∷ [])) f
+      ∙ sym (sends_with_receivers-push old (to_others c (messages_of_payloads c t ps)) (to_all c x ∷ []))
+      ∙ ap (λ s. old ++ sends_with_receivers s) (sym (ap (to_others c) (news_more e ∙ ap (λ y. messages_of_payloads c t ps ++ y ∷ []) (sym same))
       ∙ others-append c (messages_of_payloads c t ps) (x ∷ [])))
 
 -- The whole visit
 
 pub payloads_few : {A : Type 0} (c : Core A) (t : Token) (payloads : List (Payload A)) → payloads ≡ new_payloads c t
-    → length payloads ≤ room (mark c t.ring) t.seq
-payloads_few c t payloads e = subst (λ ps. length ps ≤ room (mark c t.ring) t.seq) (sym e) (offers_few c.state c (room_at c t))
+    → length payloads ≤ max_new_messages (mark c t.ring) t.seq
+payloads_few c t payloads e = subst (λ ps. length ps ≤ max_new_messages (mark c t.ring) t.seq) (sym e) (offers_few c.state c (room_at c t))
 
 -- the last number is at most the greatest
-pub seq_fits : (mark seq count : ℕ) → count ≤ room mark seq → seq ≤ max_number → seq + count ≤ max_number
+pub seq_fits : (mark seq count : ℕ) → count ≤ max_new_messages mark seq → seq ≤ max_number → seq + count ≤ max_number
 seq_fits mark seq count l s = omega arith
 
 module _ {A : Type 0} (c one two : Core A) (t : Token) (remaining_requests : List ℕ) (payloads : List (Payload A)) where
@@ -338,16 +338,16 @@ module _ {A : Type 0} (c one two : Core A) (t : Token) (remaining_requests : Lis
   -- and all frames sent
   pub visited_sends : (last : OutgoingFrame A) (old a b after : List (OutgoingFrame A)) → payloads ≡ new_payloads c t
       → one ≡ record c { queue = queue_after c.state (room_at c t) c.queue } →
-      a ≡ old ++ again c t t.requests → b ≡ a ++ addressed (to_others one (numbered t.ring one.me t.seq payloads))
-      → last ≡ to_next c (token_forwarded c t) → after ≡ b ++ addressed (last ∷ []) →
-      after ≡ old ++ addressed (token_visited c t).sends
+      a ≡ old ++ again c t t.requests → b ≡ a ++ sends_with_receivers (to_others one (numbered t.ring one.me t.seq payloads))
+      → last ≡ to_next c (token_forwarded c t) → after ≡ b ++ sends_with_receivers (last ∷ []) →
+      after ≡ old ++ sends_with_receivers (token_visited c t).sends
   visited_sends last old a b after p e f g l h =
-      let x = to_others c (repeated c t) in
+      let x = to_others c (messages_sent_again c t) in
       let y = to_others c (new_messages c t) in
       let z = to_next c (token_forwarded c t) ∷ [] in
-      let k : b ≡ a ++ addressed y = g ∙ ap (λ (d : Core A). a ++ addressed (to_others d (numbered t.ring d.me t.seq payloads)))
-      e ∙ ap (λ ps. a ++ addressed (to_others c (numbered t.ring c.me t.seq ps))) p in
-      h ∙ ap (λ s. b ++ addressed (s ∷ [])) l
-      ∙ ap (λ o. o ++ addressed z) (k ∙ ap (λ o. o ++ addressed y) f ∙ sym (addressed-push old x y))
-      ∙ sym (addressed-push old (x ++ y) z)
-      ∙ ap (λ s. old ++ addressed (s ++ z)) (sym (others-append c (repeated c t) (new_messages c t)))
+      let k : b ≡ a ++ sends_with_receivers y = g ∙ ap (λ (d : Core A). a ++ sends_with_receivers (to_others d (numbered t.ring d.me t.seq payloads)))
+      e ∙ ap (λ ps. a ++ sends_with_receivers (to_others c (numbered t.ring c.me t.seq ps))) p in
+      h ∙ ap (λ s. b ++ sends_with_receivers (s ∷ [])) l
+      ∙ ap (λ o. o ++ sends_with_receivers z) (k ∙ ap (λ o. o ++ sends_with_receivers y) f ∙ sym (sends_with_receivers-push old x y))
+      ∙ sym (sends_with_receivers-push old (x ++ y) z)
+      ∙ ap (λ s. old ++ sends_with_receivers (s ++ z)) (sym (others-append c (messages_sent_again c t) (new_messages c t)))

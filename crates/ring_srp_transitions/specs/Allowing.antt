@@ -14,7 +14,7 @@ use Rattle.ring_core_spec.specs.declared.input.Input.TheVariants.{Frame as Frame
 use Rattle.ring_core_spec.specs.State.{Core}
 use Rattle.ring_core_spec.specs.Visiting.{accepts}
 use Rattle.ring_core_spec.specs.Joining.{gather_entered}
-use Rattle.ring_core_spec.specs.Handing.{takes_first_round, takes_second_round}
+use Rattle.ring_core_spec.specs.CommitSteps.{takes_first_round, takes_second_round}
 use Rattle.ring_core_spec.specs.Deciding.{Transition, Ignore, Enqueue, Repeat, Announce, Invite, GiveUp, EnterGather, Agree, MergeJoin}
 use Rattle.ring_core_spec.specs.Deciding.{EnterGatherAndAgree, EnterGatherAndMergeJoin, Take, Visit, Fill, Learn, is_taken}
 use Rattle.ring_srp_transitions.specs.RunningCores.{is_running}
@@ -51,19 +51,19 @@ pub record LearnAllowed {A : Type 0} (c : Core A) (k : CommitToken) : Type 0 whe
   pub fits : CommitFits k
 
 -- The conditions under which a transition may be applied to a core.
-abbrev pub Allows : {A : Type 0} → Core A → Transition A → Type 0
-Allows c Ignore = Unit {0}
-Allows c (Enqueue payload) = Unit {0}
-Allows c Repeat = Unit {0}
-Allows c Announce = c.state ≡ Gather
-Allows c Invite = Unit {0}
-Allows c GiveUp = c.state ≡ Gather
-Allows c EnterGather = Unit {0}
-Allows c (Agree j) = (c.state ≡ Gather) × (has_same_sets c.gathering j ≡ true)
-Allows c (MergeJoin j) = c.state ≡ Gather
-Allows c (EnterGatherAndAgree j) = has_same_sets (gather_entered c).gathering j ≡ true
-Allows c (EnterGatherAndMergeJoin j) = Unit {0}
-Allows c (Take x) = is_taken c x ≡ true
-Allows c (Visit t) = VisitAllowed c t
-Allows c (Fill k) = FillAllowed c k
-Allows c (Learn k) = LearnAllowed c k
+abbrev pub MayApply : {A : Type 0} → Core A → Transition A → Type 0
+MayApply c Ignore = Unit {0}
+MayApply c (Enqueue payload) = Unit {0}
+MayApply c Repeat = Unit {0}
+MayApply c Announce = c.state ≡ Gather
+MayApply c Invite = Unit {0}
+MayApply c GiveUp = c.state ≡ Gather
+MayApply c EnterGather = Unit {0}
+MayApply c (Agree j) = (c.state ≡ Gather) × (has_same_sets c.gathering j ≡ true)
+MayApply c (MergeJoin j) = c.state ≡ Gather
+MayApply c (EnterGatherAndAgree j) = has_same_sets (gather_entered c).gathering j ≡ true
+MayApply c (EnterGatherAndMergeJoin j) = Unit {0}
+MayApply c (Take x) = is_taken c x ≡ true
+MayApply c (Visit t) = VisitAllowed c t
+MayApply c (Fill k) = FillAllowed c k
+MayApply c (Learn k) = LearnAllowed c k

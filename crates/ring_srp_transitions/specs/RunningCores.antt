@@ -13,7 +13,7 @@ use Rattle.ring_payload.specs.declared.content.Payload.{Payload}
 use Rattle.ring_wire.specs.declared.message.Message.{Message}
 use Rattle.ring_window.specs.Held.{of_ring, highest}
 use Rattle.ring_window.specs.Windows.{WindowHistory}
-use Rattle.ring_token.specs.Turns.{TokenVisit, Raise, turns_of}
+use Rattle.ring_token.specs.TokenVisits.{TokenVisit, MarkRaise, visits_in_ring}
 use Rattle.ring_token.specs.Histories.{TokenHistory, last_aru}
 use Rattle.ring_recover.specs.Installing.{in_front}
 use Rattle.ring_recover.specs.Plans.{safe}
@@ -23,7 +23,7 @@ use Rattle.ring_commit.specs.declared.configuration.Configuration.{Configuration
 use Rattle.ring_srp_state.specs.declared.recovery_state.RecoveryState.{RecoveryState}
 use Rattle.ring_core_spec.specs.State.{Core, OutgoingFrame, floor, is_stopped}
 use Rattle.ring_core_spec.specs.Views.{front, mark, plan}
-use Rattle.ring_core_spec.specs.Giving.{users}
+use Rattle.ring_core_spec.specs.Giving.{user_messages_between}
 use Rattle.ring_srp_state.specs.Histories.{History}
 use Rattle.ring_base.specs.Numbers.{window_size}
 
@@ -52,8 +52,8 @@ core_of me total state running installed gathering last_sent queue held h =
 -- The part of one ring
 
 -- The marks to which plans raised the ring's safe mark.
-abbrev pub raises_of : RingId → List Raise → List Raise
-raises_of ring raises = filter (λ (x : Raise). same_ring x.ring ring) raises
+abbrev pub raises_of : RingId → List MarkRaise → List MarkRaise
+raises_of ring raises = filter (λ (x : MarkRaise). same_ring x.ring ring) raises
 
 -- The window of a ring, from the core's lists.
 abbrev pub window_of : {A : Type 0} → Core A → RingId → WindowHistory A
@@ -61,7 +61,7 @@ window_of c ring = record { ring = ring; mark = mark c ring; held = of_ring ring
 
 -- The visits of a ring's token and the raises of its safe mark, from the core's lists.
 abbrev pub visits_of : {A : Type 0} → Core A → RingId → TokenHistory A
-visits_of c ring = record { me = c.me; ring = ring; turns = turns_of ring c.turns; raises = raises_of ring c.raises }
+visits_of c ring = record { me = c.me; ring = ring; turns = visits_in_ring ring c.turns; raises = raises_of ring c.raises }
 
 -- The window and the visits are this ring's; the mark is at most the front, nothing held lies above the window, and the
 -- `aru` forwarded last is at most the front.
@@ -70,7 +70,7 @@ pub record IsPart {A : Type 0} (c : Core A) (ring : RingId) (window : WindowHist
   pub visit_is : visit ≡ visits_of c ring
   pub reached : mark c ring ≤ front c ring
   pub near : highest c.held ring ≤ mark c ring + window_size
-  pub led : last_aru (turns_of ring c.turns) ≤ front c ring
+  pub led : last_aru (visits_in_ring ring c.turns) ≤ front c ring
 
 -- Facts about ring numbers
 
@@ -78,16 +78,16 @@ pub record IsPart {A : Type 0} (c : Core A) (ring : RingId) (window : WindowHist
 pub record IsBelow {A : Type 0} (c : Core A) (number : ℕ) : Type 0 where
   pub held : AllByRecursion (λ (x : Message A). x.ring.seq < number) c.held
   pub turns : AllByRecursion (λ (v : TokenVisit A). v.received.ring.seq < number) c.turns
-  pub raises : AllByRecursion (λ (x : Raise). x.ring.seq < number) c.raises
+  pub raises : AllByRecursion (λ (x : MarkRaise). x.ring.seq < number) c.raises
 
 -- In a state and with a floor, the number below which all held rings lie: in Commit the ring last taken part in hasn't
 -- run yet.
-abbrev pub bound : State → ℕ → ℕ
-bound Gather number = suc number
-bound Commit number = number
-bound Recovery number = suc number
-bound Operational number = suc number
-bound Stopped number = suc number
+abbrev pub held_ring_bound : State → ℕ → ℕ
+held_ring_bound Gather number = suc number
+held_ring_bound Commit number = number
+held_ring_bound Recovery number = suc number
+held_ring_bound Operational number = suc number
+held_ring_bound Stopped number = suc number
 
 -- The core takes part in a ring that isn't its installed one.
 abbrev pub is_forming : State → Bool
@@ -119,10 +119,10 @@ pub record Recovers {A : Type 0} (c : Core A) (r : RecoveryState A) : Type 0 whe
   pub part : IsPart c c.running.ring r.part.window r.part.visit
   pub plan_is : r.plan ≡ record { me = c.me; plan = plan c; seen = of_ring c.running.ring c.held }
   pub ends_is : r.ends ≡ in_front c.held c.running.ring
-  pub deferred_is : r.deferred.items ≡ users c c.running.ring 0 r.most
+  pub deferred_is : r.deferred.items ≡ user_messages_between c c.running.ring 0 r.most
   pub deferred_in_front : r.most ≤ front c c.running.ring
   pub deferred_covers_mark : mark c c.running.ring ≤ r.most
-  pub deferred_covers_aru : last_aru (turns_of c.running.ring c.turns) ≤ r.most
+  pub deferred_covers_aru : last_aru (visits_in_ring c.running.ring c.turns) ≤ r.most
   -- The old ring's safe mark is at most the plan's.
   pub old_safe : mark c c.installed.ring ≤ safe (plan c)
 
@@ -142,7 +142,7 @@ pub record IsRunningCore {A : Type 0} (c : Core A) (gather : Gatherer) (window :
   pub member : IsMember c.running.members c.me
   -- The part of the installed ring.
   pub kept : IsPart c c.installed.ring window visit
-  pub below : IsBelow c (bound c.state (floor c))
+  pub below : IsBelow c (held_ring_bound c.state (floor c))
   pub older : c.installed.ring.seq ≤ floor c
   pub apart : is_forming c.state ≡ true → c.installed.ring.seq < floor c
   pub same : c.state ≡ Operational → c.installed ≡ c.running

@@ -8,7 +8,7 @@ use crate::running_core::RunningCore;
 use ring_base::pair_result;
 use ring_core_spec::OutgoingFrame;
 use ring_payload::Payload;
-use ring_srp_state::{RecoveryState, RingPart};
+use ring_srp_state::{RecoveryState, WindowAndVisits};
 use std::alloc::{AllocError, Allocator};
 use std::collections::VecDeque;
 
@@ -20,18 +20,21 @@ impl<A: Allocator + Copy> Clone for RunningCore<A> {
         let history = self.history.clone()?;
         let gather = self.gather.clone()?;
         let frames = copied_frames(&self.queue, &self.last_sent)?;
-        let (frames, parts) = pair_result(frames, copied_parts(&self.kept, &self.recovery))?;
+        let (frames, parts) = pair_result(
+            frames,
+            copied_parts(&self.installed_part, &self.recovery),
+        )?;
         Ok(RunningCore {
             alloc: self.alloc,
             me: self.me,
             fixed: self.fixed,
             state: self.state,
-            running: self.running,
+            newest_ring: self.newest_ring,
             installed: self.installed,
             gather,
             last_sent: frames.1,
             queue: frames.0,
-            kept: parts.0,
+            installed_part: parts.0,
             recovery: parts.1,
             held,
             history,
@@ -53,9 +56,9 @@ fn copied_frames<A: Allocator + Copy>(
 
 /// Returns copies of what is kept of the installed ring, and of the state of Recovery.
 fn copied_parts<A: Allocator + Copy>(
-    kept: &RingPart<A>,
+    kept: &WindowAndVisits<A>,
     recovery: &Option<RecoveryState<A>>,
-) -> Result<(RingPart<A>, Option<RecoveryState<A>>), AllocError>
+) -> Result<(WindowAndVisits<A>, Option<RecoveryState<A>>), AllocError>
     ensures kept { IfOk result (λ copy. copy.0 ≡ kept.now) }
     ensures recovery { IfOk result (λ copy. MatchOption recovery.now (copy.1 ≡ None) (λ kept. IsSomeAnd copy.1 (IsCopied kept))) }
 {

@@ -9,9 +9,9 @@ ghost use Rattle.ring_base.specs.Processors.{IsMember, size, smallest};
 ghost use Rattle.ring_base.specs.declared.fault.Fault.TheVariants.{Memory};
 ghost use Rattle.ring_base.specs.declared.state.State.TheVariants.{Gather as InGather, Commit as InCommit};
 ghost use Rattle.ring_core_spec.specs.State.{floor};
-ghost use Rattle.ring_core_spec.specs.Giving.{addressed};
+ghost use Rattle.ring_core_spec.specs.Giving.{sends_with_receivers};
 ghost use Rattle.ring_core_spec.specs.Joining.{proposes};
-ghost use Rattle.ring_core_spec.specs.Handing.{ring_joined, commit_filled};
+ghost use Rattle.ring_core_spec.specs.CommitSteps.{ring_joined, commit_filled};
 ghost use Rattle.ring_core_spec.specs.Transitions.{without_sends, with_proposal_if};
 ghost use Rattle.ring_core_spec.specs.Views.{own_entry};
 ghost use Rattle.ring_join.specs.Gathering.{candidates, may_propose};
@@ -21,8 +21,8 @@ use crate::running_core::RunningCore;
 use ring_base::{Fault, MAX, ProcSet, RingId, State};
 use ring_commit::{CommitOutcome, propose, receiver};
 use ring_core_spec::OutgoingFrame;
-use ring_srp_state::with_ring;
-use ring_wire::{CommitBox, Frame};
+use ring_srp_state::history_with_ring;
+use ring_wire::{BoxedCommitToken, Frame};
 use std::alloc::Allocator;
 
 impl<A: Allocator + Copy> RunningCore<A> {
@@ -36,7 +36,7 @@ impl<A: Allocator + Copy> RunningCore<A> {
     /// Rules: Gather 10; The commit token 4
     pub fn propose_if_due(&mut self, sends: &mut Vec<OutgoingFrame<A>, A>) -> Result<(), Fault>
         ensures core { OnOk result (self.new ≡ (with_proposal_if (proposes self.old) (without_sends self.old)).core) }
-        ensures sends { OnOk result (sends.new.items ≡ sends.old.items ++ addressed (with_proposal_if (proposes self.old) (without_sends self.old)).sends) }
+        ensures sends { OnOk result (sends.new.items ≡ sends.old.items ++ sends_with_receivers (with_proposal_if (proposes self.old) (without_sends self.old)).sends) }
         ensures refused { IfErr result (λ fault. fault ≡ Memory) }
     {
         if self.proposes() {
@@ -51,15 +51,15 @@ impl<A: Allocator + Copy> RunningCore<A> {
     fn propose(&mut self, sends: &mut Vec<OutgoingFrame<A>, A>) -> Result<(), Fault>
         requires { proposes self.old ≡ true }
         ensures core { OnOk result (self.new ≡ (with_proposal_if (proposes self.old) (without_sends self.old)).core) }
-        ensures sends { OnOk result (sends.new.items ≡ sends.old.items ++ addressed (with_proposal_if (proposes self.old) (without_sends self.old)).sends) }
+        ensures sends { OnOk result (sends.new.items ≡ sends.old.items ++ sends_with_receivers (with_proposal_if (proposes self.old) (without_sends self.old)).sends) }
         ensures refused { IfErr result (λ fault. fault ≡ Memory) }
     {
         let greatest = self.gather.greatest_number();
         let candidates = self.gather.candidates();
         match propose(self.me, greatest, candidates, self.own_entry()) {
             CommitOutcome::Pass(token) => {
-                let boxed = CommitBox::new(self.alloc, token)?;
-                self.join(boxed, sends)
+                let boxed = BoxedCommitToken::new(self.alloc, token)?;
+                self.join_ring(boxed, sends)
             }
             _ => Ok(()),
         }
@@ -102,24 +102,24 @@ impl<A: Allocator + Copy> RunningCore<A> {
     /// Rules: The commit token 5
     pub fn fill(
         &mut self,
-        boxed: CommitBox<A>,
+        boxed: BoxedCommitToken<A>,
         sends: &mut Vec<OutgoingFrame<A>, A>,
     ) -> Result<(), Fault>
         requires { FillAllowed self.old boxed }
         ensures core { OnOk result (self.new ≡ (commit_filled self.old boxed).core) }
-        ensures sends { OnOk result (sends.new.items ≡ sends.old.items ++ addressed (commit_filled self.old boxed).sends) }
+        ensures sends { OnOk result (sends.new.items ≡ sends.old.items ++ sends_with_receivers (commit_filled self.old boxed).sends) }
         ensures refused { IfErr result (λ fault. fault ≡ Memory) }
     {
         let mut forwarded = boxed;
         forwarded.advance_hop();
-        forwarded.report(self.own_entry());
-        self.join(forwarded, sends)
+        forwarded.append_entry(self.own_entry());
+        self.join_ring(forwarded, sends)
     }
 
     /// Takes part in the ring of a commit token, and sends the token.
-    fn join(
+    fn join_ring(
         &mut self,
-        boxed: CommitBox<A>,
+        boxed: BoxedCommitToken<A>,
         sends: &mut Vec<OutgoingFrame<A>, A>,
     ) -> Result<(), Fault>
         requires state { self.old.state ≡ InGather }
@@ -127,14 +127,14 @@ impl<A: Allocator + Copy> RunningCore<A> {
         requires member { IsMember boxed.members self.old.me }
         requires some { 0 < size boxed.members }
         ensures core { OnOk result (self.new ≡ (ring_joined self.old boxed).core) }
-        ensures sends { OnOk result (sends.new.items ≡ sends.old.items ++ addressed (ring_joined self.old boxed).sends) }
+        ensures sends { OnOk result (sends.new.items ≡ sends.old.items ++ sends_with_receivers (ring_joined self.old boxed).sends) }
         ensures refused { IfErr result (λ fault. fault ≡ Memory) }
     {
         let token = boxed.token();
         let (ring, members) = (token.ring, token.members);
-        let to = ProcSet::only(receiver(token));
+        let to = ProcSet::singleton(receiver(token));
         self.take_part(ring, members, to, Frame::Commit(boxed));
-        self.repeat(sends)
+        self.send_kept_token(sends)
     }
 
     /// Takes part in a ring: the core records its own entry, and the frame becomes the kept token.
@@ -153,10 +153,10 @@ impl<A: Allocator + Copy> RunningCore<A> {
     {
         let own = self.own_entry();
         self.state = State::Commit;
-        self.running.ring = ring;
-        self.running.members = members;
+        self.newest_ring.ring = ring;
+        self.newest_ring.members = members;
         self.last_sent = Some(OutgoingFrame { to, frame });
-        let history = with_ring(&self.history, self.running, &own);
+        let history = history_with_ring(&self.history, self.newest_ring, &own);
         self.history = history;
     }
 }

@@ -5,15 +5,15 @@
 
 ghost use Rattle.std.specs.Prelude.{◌≡◌, ◌&&◌, true, None, IfSome, if◌then◌else◌};
 ghost use Rattle.ring_payload.specs.Packing.{is_queued};
-ghost use Rattle.ring_token.specs.Turns.{first_token};
+ghost use Rattle.ring_token.specs.TokenVisits.{first_token};
 ghost use Rattle.ring_srp_transitions.specs.CodeTransitions.{transition_of};
 ghost use Rattle.ring_core_spec.specs.Deciding.{decide, decide_frame, decide_token, decide_join, decide_commit};
-ghost use Rattle.ring_core_spec.specs.Deciding.{decide_round, decide_time, decide_payload, decide_user, transition_in_gather};
+ghost use Rattle.ring_core_spec.specs.Deciding.{decide_round, decide_time, decide_payload, decide_in_operational, transition_in_gather};
 ghost use Rattle.ring_core_spec.specs.Deciding.{transition_into_gather, decide_join_elsewhere, is_taken};
 ghost use Rattle.ring_core_spec.specs.Deciding.{Take as TakeAct, Visit as VisitAct, Ignore as IgnoreAct};
 ghost use Rattle.ring_core_spec.specs.declared.input.Input.TheVariants.{Frame as FrameInput};
 ghost use Rattle.ring_core_spec.specs.Joining.{is_gather_trigger};
-ghost use Rattle.ring_core_spec.specs.Handing.{takes_first_round, takes_second_round, takes_start};
+ghost use Rattle.ring_core_spec.specs.CommitSteps.{takes_first_round, takes_second_round, takes_start};
 ghost use Rattle.ring_srp_transitions.specs.RunningCores.{is_running, ring_in_use};
 ghost use Rattle.ring_core_spec.specs.Views.{takes_number};
 ghost use Rattle.ring_base.specs.Rings.{same_ring};
@@ -23,12 +23,12 @@ ghost use Rattle.ring_core_spec.specs.Visiting.{accepts};
 use crate::running_core::RunningCore;
 use crate::transition::Transition;
 use ring_base::{Kind, RingId, State};
-use ring_commit::{Configuration, is_at, is_first_round, is_second_round, is_start};
-use ring_core_spec::{Input, is_named};
+use ring_commit::{Configuration, is_first_round, is_second_round, is_start, is_token_at};
+use ring_core_spec::{Input, names_only_group};
 use ring_join::JoinEffect;
 use ring_payload::Payload;
 use ring_srp_state::is_queued;
-use ring_wire::{CommitBox, CommitToken, Frame, Join, Message, Requests, Token};
+use ring_wire::{BoxedCommitToken, CommitToken, Frame, Join, Message, Requests, Token};
 use std::alloc::Allocator;
 
 impl<A: Allocator + Copy> RunningCore<A> {
@@ -44,7 +44,7 @@ impl<A: Allocator + Copy> RunningCore<A> {
     {
         match input {
             Input::Frame(frame) => {
-                if is_named(self.fixed, &frame) {
+                if names_only_group(self.fixed, &frame) {
                     self.decide_frame(frame)
                 } else {
                     Transition::Ignore
@@ -61,12 +61,12 @@ impl<A: Allocator + Copy> RunningCore<A> {
     /// choose `Visit` with this token.
     ///
     /// Rules: Token and window 6
-    pub fn visited_by<'a>(&self, frame: &'a Frame<A>) -> Option<&'a Token>
+    pub fn token_to_visit<'a>(&self, frame: &'a Frame<A>) -> Option<&'a Token>
         ensures { IfSome result (λ token. VisitAct token.now ≡ decide self.now (FrameInput frame.now)) }
     {
         match frame {
             Frame::Token(token) => {
-                if is_named(self.fixed, frame) && self.visits(token) {
+                if names_only_group(self.fixed, frame) && self.would_visit(token) {
                     Some(token)
                 } else {
                     None
@@ -82,12 +82,12 @@ impl<A: Allocator + Copy> RunningCore<A> {
     /// [`decide`](RunningCore::decide) would choose `Take` with this message.
     ///
     /// Rules: Token and window 11
-    pub fn taken_by<'a>(&self, frame: &'a Frame<A>) -> Option<&'a Message<A>>
+    pub fn message_to_take<'a>(&self, frame: &'a Frame<A>) -> Option<&'a Message<A>>
         ensures { IfSome result (λ message. TakeAct message.now ≡ decide self.now (FrameInput frame.now)) }
     {
         match frame {
             Frame::Message(message) => {
-                if is_named(self.fixed, frame) && self.takes(message) {
+                if names_only_group(self.fixed, frame) && self.takes_message(message) {
                     Some(message)
                 } else {
                     None
@@ -102,7 +102,7 @@ impl<A: Allocator + Copy> RunningCore<A> {
     {
         match frame {
             Frame::Message(message) => {
-                if self.takes(&message) {
+                if self.takes_message(&message) {
                     Transition::Take(message)
                 } else {
                     Transition::Ignore
@@ -117,26 +117,29 @@ impl<A: Allocator + Copy> RunningCore<A> {
     /// Returns whether a message is taken: its ring is the one in use, its sender is a member, and its number is new.
     ///
     /// The ring in use is the running one, or in Gather the installed one, until the core takes part in a newer ring.
-    fn takes(&self, message: &Message<A>) -> bool
+    fn takes_message(&self, message: &Message<A>) -> bool
         ensures { result ≡ is_taken self.now message.now }
     {
         match self.state {
-            State::Recovery | State::Operational => self.takes_in(&self.running, message),
+            State::Recovery | State::Operational => self.takes_message_of(
+                &self.newest_ring,
+                message,
+            ),
             State::Gather => {
-                self.floor() == message.ring.seq && self.takes_in(&self.installed, message)
+                self.floor() == message.ring.seq && self.takes_message_of(&self.installed, message)
             }
             State::Commit | State::Stopped => false,
         }
     }
 
     /// Returns whether a message belongs to this ring, its sender is a member, and its number is new.
-    fn takes_in(&self, configuration: &Configuration, message: &Message<A>) -> bool
+    fn takes_message_of(&self, configuration: &Configuration, message: &Message<A>) -> bool
         requires { configuration.now.ring ≡ ring_in_use self.now.state self.now }
         ensures { result ≡ (same_ring message.now.ring configuration.now.ring
             && has configuration.now.members message.now.sender && takes_number self.now message.now.ring
             message.now.number) }
     {
-        let part = self.part();
+        let part = self.part_in_use();
         message.ring == configuration.ring
             && configuration.members.contains(message.sender)
             && part.window.is_new(message.number)
@@ -145,7 +148,7 @@ impl<A: Allocator + Copy> RunningCore<A> {
     fn decide_token(&self, token: Token) -> Transition<A>
         ensures { transition_of result ≡ decide_token self.now.state self.now token }
     {
-        if self.visits(&token) {
+        if self.would_visit(&token) {
             Transition::Visit(token)
         } else {
             Transition::Ignore
@@ -153,21 +156,21 @@ impl<A: Allocator + Copy> RunningCore<A> {
     }
 
     /// Returns whether a token is visited: a ring runs, and the token is accepted.
-    fn visits(&self, token: &Token) -> bool
+    fn would_visit(&self, token: &Token) -> bool
         ensures { decide_token self.now.state self.now token.now ≡ (if result then VisitAct token.now else IgnoreAct) }
     {
         match self.state {
-            State::Recovery | State::Operational => self.accepts(token),
+            State::Recovery | State::Operational => self.accepts_token(token),
             State::Gather | State::Commit | State::Stopped => false,
         }
     }
 
     /// Returns whether the core accepts a token in its running ring.
-    fn accepts(&self, token: &Token) -> bool
+    fn accepts_token(&self, token: &Token) -> bool
         requires { is_running self.now.state ≡ true }
         ensures { result ≡ accepts self.now token.now }
     {
-        let part = self.part();
+        let part = self.part_in_use();
         part.visit.accepts(token, part.window.highest())
     }
 
@@ -200,17 +203,17 @@ impl<A: Allocator + Copy> RunningCore<A> {
     fn is_gather_trigger(&self, join: &Join) -> bool
         ensures { result ≡ is_gather_trigger self.now join.now }
     {
-        if self.running.members.contains(join.sender) {
-            self.running.ring.seq <= join.number
+        if self.newest_ring.members.contains(join.sender) {
+            self.newest_ring.ring.seq <= join.number
         } else {
             self.state == State::Operational
         }
     }
 
-    fn decide_commit(&self, boxed: CommitBox<A>) -> Transition<A>
+    fn decide_commit(&self, boxed: BoxedCommitToken<A>) -> Transition<A>
         ensures { transition_of result ≡ decide_commit self.now boxed }
     {
-        if is_at(self.me, boxed.token()) {
+        if is_token_at(self.me, boxed.token()) {
             self.decide_round(boxed)
         } else {
             Transition::Ignore
@@ -218,7 +221,7 @@ impl<A: Allocator + Copy> RunningCore<A> {
     }
 
     /// Returns the transition for a commit token that is at this node.
-    fn decide_round(&self, boxed: CommitBox<A>) -> Transition<A>
+    fn decide_round(&self, boxed: BoxedCommitToken<A>) -> Transition<A>
         ensures { transition_of result ≡ decide_round self.now.state self.now boxed }
     {
         let token = boxed.token();
@@ -242,7 +245,7 @@ impl<A: Allocator + Copy> RunningCore<A> {
         ensures { result ≡ takes_second_round self.now token.now }
     {
         let own = self.own_entry();
-        is_second_round(&self.running, &own, token)
+        is_second_round(&self.newest_ring, &own, token)
     }
 
     /// Returns whether a commit token starts the token of the running ring. That happens only once.
@@ -250,7 +253,7 @@ impl<A: Allocator + Copy> RunningCore<A> {
         requires { is_running self.now.state ≡ true }
         ensures { result ≡ takes_start self.now token.now }
     {
-        is_start(&self.running, token) && self.accepts(&first_token(token.ring))
+        is_start(&self.newest_ring, token) && self.accepts_token(&first_token(token.ring))
     }
 
     fn decide_time(&self, kind: Kind) -> Transition<A>
@@ -271,7 +274,7 @@ impl<A: Allocator + Copy> RunningCore<A> {
         ensures { transition_of result ≡ decide_payload self.now.state payload }
     {
         match self.state {
-            State::Operational => decide_user(payload),
+            State::Operational => decide_in_operational(payload),
             State::Gather | State::Commit | State::Recovery | State::Stopped => Transition::Ignore,
         }
     }
@@ -318,8 +321,8 @@ pub fn first_token(ring: RingId) -> Token
 }
 
 /// Returns the transition for a payload in Operational.
-fn decide_user<A: Allocator + Copy>(payload: Payload<A>) -> Transition<A>
-    ensures { transition_of result ≡ decide_user payload }
+fn decide_in_operational<A: Allocator + Copy>(payload: Payload<A>) -> Transition<A>
+    ensures { transition_of result ≡ decide_in_operational payload }
 {
     if is_queued(&payload) {
         Transition::Enqueue(payload)

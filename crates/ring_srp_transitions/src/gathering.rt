@@ -5,17 +5,17 @@
 ghost use Rattle.std.specs.Prelude.{◌≡◌, true, [], ◌∷◌, ◌++◌, IfErr, OnOk, None};
 ghost use Rattle.ring_base.specs.declared.fault.Fault.TheVariants.{Memory};
 ghost use Rattle.ring_base.specs.declared.state.State.TheVariants.{Gather as InGather};
-ghost use Rattle.ring_join.specs.Gathering.{gathering_opening, agreed, join_merged, silent_given_up, has_same_sets};
+ghost use Rattle.ring_join.specs.Gathering.{gathering_opening, with_agreement, join_merged, silent_given_up, has_same_sets};
 ghost use Rattle.ring_core_spec.specs.State.{floor};
 ghost use Rattle.ring_core_spec.specs.Transitions.{last_sent_repeated};
-ghost use Rattle.ring_core_spec.specs.Giving.{addressed};
+ghost use Rattle.ring_core_spec.specs.Giving.{sends_with_receivers};
 ghost use Rattle.ring_core_spec.specs.Joining.{first_procs, gather_entered, with_gathering, join_announcement, join_invitation};
 
 use crate::running_core::RunningCore;
 use ring_base::{Fault, ProcSet, State};
 use ring_core_spec::OutgoingFrame;
 use ring_join::Gather;
-use ring_srp_state::{send, send_copy};
+use ring_srp_state::{push_frame, send_copy};
 use ring_wire::{Frame, Join};
 use std::alloc::Allocator;
 use std::collections::VecDeque;
@@ -45,7 +45,7 @@ impl<A: Allocator + Copy> RunningCore<A> {
     /// Enters Gather, from any state.
     ///
     /// Sets and agreement start again; the queue, the kept token and the state of Recovery are dropped. Sends nothing:
-    /// [`announce`](RunningCore::announce) sends the join.
+    /// [`send_own_join`](RunningCore::send_own_join) sends the join.
     ///
     /// Rules: Gather 1
     pub fn enter_gather(&mut self)
@@ -61,7 +61,8 @@ impl<A: Allocator + Copy> RunningCore<A> {
 
     /// Gives up each candidate that doesn't agree, by adding it to `fail_set`.
     ///
-    /// Then agreement falls back to the node itself. Sends nothing: [`announce`](RunningCore::announce) sends the join.
+    /// Then agreement falls back to the node itself. Sends nothing:
+    /// [`send_own_join`](RunningCore::send_own_join) sends the join.
     ///
     /// Rules: Gather 6
     pub fn give_up(&mut self)
@@ -77,15 +78,15 @@ impl<A: Allocator + Copy> RunningCore<A> {
     /// Rules: Gather 3, 4 and 8
     pub fn agree(&mut self, join: &Join)
         requires { has_same_sets self.old.gathering join.now ≡ true }
-        ensures { self.new ≡ with_gathering self.old (agreed self.old.gathering join.now) }
+        ensures { self.new ≡ with_gathering self.old (with_agreement self.old.gathering join.now) }
     {
-        self.gather.agree(join);
+        self.gather.count_agreement(join);
     }
 
     /// Widens the node's sets by those of a join.
     ///
     /// Agreement falls back to the node itself; the join's sender agrees at once if its sets equal the widened ones.
-    /// Sends nothing: [`announce`](RunningCore::announce) sends the join.
+    /// Sends nothing: [`send_own_join`](RunningCore::send_own_join) sends the join.
     ///
     /// Rules: Gather 5
     pub fn merge_join(&mut self, join: &Join)
@@ -102,13 +103,16 @@ impl<A: Allocator + Copy> RunningCore<A> {
     /// Errors: `Memory` if an allocation fails; the contents of `sends` are then unspecified.
     ///
     /// Rules: Gather 2 and 7
-    pub fn announce(&self, sends: &mut Vec<OutgoingFrame<A>, A>) -> Result<(), Fault>
+    pub fn send_own_join(&self, sends: &mut Vec<OutgoingFrame<A>, A>) -> Result<(), Fault>
         requires { self.now.state ≡ InGather }
-        ensures ok { OnOk result (sends.new.items ≡ sends.old.items ++ addressed (join_announcement self.now ∷ [])) }
+        ensures ok { OnOk result (sends.new.items ≡ sends.old.items ++ sends_with_receivers (join_announcement self.now ∷ [])) }
         ensures refused { IfErr result (λ fault. fault ≡ Memory) }
     {
-        let others = self.fixed.everybody().less(ProcSet::only(self.me));
-        send(sends, others, Frame::Join(self.gather.my_join()))
+        let others = self
+            .fixed
+            .everybody()
+            .without_members(ProcSet::singleton(self.me));
+        push_frame(sends, others, Frame::Join(self.gather.my_join()))
     }
 
     /// Appends a join for the processors outside the running ring to `sends`, as an Operational node does at a join
@@ -120,20 +124,20 @@ impl<A: Allocator + Copy> RunningCore<A> {
     /// Errors: `Memory` if an allocation fails; the contents of `sends` are then unspecified.
     ///
     /// Rules: Timeouts 4
-    pub fn invite(&self, sends: &mut Vec<OutgoingFrame<A>, A>) -> Result<(), Fault>
-        ensures ok { OnOk result (sends.new.items ≡ sends.old.items ++ addressed (join_invitation self.now ∷ [])) }
+    pub fn send_invitation_join(&self, sends: &mut Vec<OutgoingFrame<A>, A>) -> Result<(), Fault>
+        ensures ok { OnOk result (sends.new.items ≡ sends.old.items ++ sends_with_receivers (join_invitation self.now ∷ [])) }
         ensures refused { IfErr result (λ fault. fault ≡ Memory) }
     {
-        let members = self.running.members;
+        let members = self.newest_ring.members;
         let join = Join {
             sender: self.me,
             number: self.floor(),
             proc_set: members,
             fail_set: ProcSet::new(),
         };
-        send(
+        push_frame(
             sends,
-            self.fixed.everybody().less(members),
+            self.fixed.everybody().without_members(members),
             Frame::Join(join),
         )
     }
@@ -144,8 +148,8 @@ impl<A: Allocator + Copy> RunningCore<A> {
     /// Errors: `Memory` if an allocation fails; the contents of `sends` are then unspecified.
     ///
     /// Rules: Timeouts 3; Rings and states 10
-    pub fn repeat(&self, sends: &mut Vec<OutgoingFrame<A>, A>) -> Result<(), Fault>
-        ensures ok { OnOk result (sends.new.items ≡ sends.old.items ++ addressed (last_sent_repeated self.now.last_sent)) }
+    pub fn send_kept_token(&self, sends: &mut Vec<OutgoingFrame<A>, A>) -> Result<(), Fault>
+        ensures ok { OnOk result (sends.new.items ≡ sends.old.items ++ sends_with_receivers (last_sent_repeated self.now.last_sent)) }
         ensures refused { IfErr result (λ fault. fault ≡ Memory) }
     {
         match &self.last_sent {

@@ -11,7 +11,7 @@ ghost use Rattle.ring_srp_transitions.specs.RunningCores.{ring_in_use};
 
 use crate::running_core::RunningCore;
 use ring_base::{Fault, State, ghost_step_of_two};
-use ring_srp_state::{one_first, unwrap_into};
+use ring_srp_state::{ghost_list_with_first, unwrap_into};
 use ring_wire::Message;
 use std::alloc::Allocator;
 
@@ -31,9 +31,9 @@ impl<A: Allocator + Copy> RunningCore<A> {
     {
         match &mut self.recovery {
             Some(recovery_state) if self.state == State::Recovery => {
-                let old = (self.installed.ring, self.kept.window.mark());
+                let old = (self.installed.ring, self.installed_part.window.mark());
                 let held = ghost_step_of_two(&self.held, &message, &old);
-                unwrap_into(&message.payload, &mut self.kept.window)?;
+                unwrap_into(&message.payload, &mut self.installed_part.window)?;
                 self.held = held;
                 recovery_state.take(message);
                 Ok(())
@@ -51,12 +51,12 @@ impl<A: Allocator + Copy> RunningCore<A> {
         requires new { takes_number self.old message.ring message.number ≡ true }
         ensures { self.new ≡ record self.old { held = message ∷ self.old.held } }
     {
-        let held = one_first(&self.held, &message);
+        let held = ghost_list_with_first(&self.held, &message);
         self.held = held;
         match &mut self.recovery {
             Some(recovery_state) if self.state == State::Recovery => recovery_state.take(message),
             _ => {
-                self.kept.window.take(message);
+                self.installed_part.window.take(message);
             }
         }
     }

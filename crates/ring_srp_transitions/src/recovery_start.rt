@@ -4,10 +4,10 @@
 
 ghost use Rattle.std.specs.Prelude.{◌≡◌, ◌++◌, IfErr, OnOk};
 ghost use Rattle.ring_base.specs.declared.fault.Fault.TheVariants.{Memory};
-ghost use Rattle.ring_window.specs.Windows.{opened};
+ghost use Rattle.ring_window.specs.Windows.{window_opening};
 ghost use Rattle.ring_recover.specs.RecoveryState.{recovery_opening};
-ghost use Rattle.ring_core_spec.specs.Giving.{addressed};
-ghost use Rattle.ring_core_spec.specs.Handing.{commit_learned};
+ghost use Rattle.ring_core_spec.specs.Giving.{sends_with_receivers};
+ghost use Rattle.ring_core_spec.specs.CommitSteps.{commit_learned};
 ghost use Rattle.ring_srp_transitions.specs.Allowing.{LearnAllowed};
 ghost use Rattle.ring_srp_transitions.specs.Learns.{plan_at, core_in_recovery};
 
@@ -15,11 +15,11 @@ use crate::running_core::RunningCore;
 use ring_base::{Fault, Ghost, ProcSet, State, ghost_now};
 use ring_commit::receiver;
 use ring_core_spec::OutgoingFrame;
-use ring_recover::{Ends, Plan};
-use ring_srp_state::{RecoveryState, RingPart, with_plan};
+use ring_recover::{EndCounts, Plan};
+use ring_srp_state::{RecoveryState, WindowAndVisits, history_with_plan};
 use ring_token::Visit;
 use ring_window::Window;
-use ring_wire::{CommitBox, CommitToken, Frame};
+use ring_wire::{BoxedCommitToken, CommitToken, Frame};
 use std::alloc::Allocator;
 use std::mem;
 
@@ -35,29 +35,29 @@ impl<A: Allocator + Copy> RunningCore<A> {
     /// Rules: The commit token 6; Recovery 3
     pub fn learn(
         &mut self,
-        boxed: CommitBox<A>,
+        boxed: BoxedCommitToken<A>,
         sends: &mut Vec<OutgoingFrame<A>, A>,
     ) -> Result<(), Fault>
         requires { LearnAllowed self.old boxed }
         ensures core { OnOk result (self.new ≡ (commit_learned self.old boxed).core) }
-        ensures sends { OnOk result (sends.new.items ≡ sends.old.items ++ addressed (commit_learned self.old boxed).sends) }
+        ensures sends { OnOk result (sends.new.items ≡ sends.old.items ++ sends_with_receivers (commit_learned self.old boxed).sends) }
         ensures refused { IfErr result (λ fault. fault ≡ Memory) }
     {
-        let window = Window::new(self.alloc, self.running.ring)?;
+        let window = Window::new(self.alloc, self.newest_ring.ring)?;
         let plan = Plan::from_commit(self.me, boxed.token()).unwrap();
         let received = ghost_now(boxed.token());
         let mut forwarded = boxed;
         forwarded.advance_hop();
-        let to = ProcSet::only(receiver(forwarded.token()));
+        let to = ProcSet::singleton(receiver(forwarded.token()));
         let frame = Frame::Commit(forwarded);
-        self.recover(&received, plan, window, OutgoingFrame { to, frame });
-        self.repeat(sends)
+        self.enter_recovery(&received, plan, window, OutgoingFrame { to, frame });
+        self.send_kept_token(sends)
     }
 
     /// Enters Recovery with a plan and an empty window of the running ring.
     ///
     /// The old ring's safe mark rises to the greatest one that a transitional member reported.
-    fn recover(
+    fn enter_recovery(
         &mut self,
         received: &Ghost<CommitToken>,
         plan: Plan<A>,
@@ -66,20 +66,20 @@ impl<A: Allocator + Copy> RunningCore<A> {
     )
         requires allowed { LearnAllowed self.old received.now.value }
         requires plan { plan ≡ recovery_opening self.old.me (plan_at self.old received.now.value) }
-        requires window { window ≡ opened self.old.running.ring }
+        requires window { window ≡ window_opening self.old.running.ring }
         ensures { self.new ≡ core_in_recovery self.old received.now.value last_sent }
     {
-        let safe = plan.safe();
-        let history = with_plan(&self.history, received, self.installed.ring, safe);
-        let visit = Visit::new(self.me, self.running.ring);
-        self.kept.visit.raise(safe);
-        self.kept.window.forget(safe);
+        let safe = plan.greatest_reported_safe_mark();
+        let history = history_with_plan(&self.history, received, self.installed.ring, safe);
+        let visit = Visit::new(self.me, self.newest_ring.ring);
+        self.installed_part.visit.raise_safe_mark(safe);
+        self.installed_part.window.forget(safe);
         self.state = State::Recovery;
         self.history = history;
         let recovery_state = RecoveryState {
-            part: RingPart { window, visit },
+            part: WindowAndVisits { window, visit },
             plan,
-            ends: Ends::new(),
+            ends: EndCounts::new(),
             most: 0,
             deferred: Vec::new(self.alloc),
         };

@@ -5,14 +5,16 @@
 ghost use Rattle.std.specs.Prelude.{◌≡◌, ◌≤◌, true, false, [], IfOk, IfErr};
 ghost use Rattle.ring_base.specs.Processors.{IsMember};
 ghost use Rattle.ring_base.specs.declared.fault.Fault.TheVariants.{Memory};
-ghost use Rattle.ring_core_spec.specs.State.{all_of, alone, formed, opening};
+ghost use Rattle.ring_core_spec.specs.State.{formed_ring_of, opening_ring, formed, opening};
 
 use ring_base::{Fault, Fixed, Ghost, Proc, ProcSet, RingId, State};
 use ring_commit::Configuration;
 use ring_core_spec::OutgoingFrame;
 use ring_join::Gather;
 use ring_payload::Payload;
-use ring_srp_state::{CoreHistory, RecoveryState, RingPart, formed_of, none, opened};
+use ring_srp_state::{
+    CoreHistory, RecoveryState, WindowAndVisits, empty_ghost_list, formed_history, opening_history,
+};
 use ring_wire::{CommitEntry, Message};
 use std::alloc::{Allocator, Global};
 use std::collections::VecDeque;
@@ -28,14 +30,14 @@ pub struct RunningCore<A: Allocator + Copy = Global> {
     pub(crate) fixed: Fixed,
     pub(crate) state: State,
     /// The newest ring that the core has taken part in. Its number is the floor.
-    pub(crate) running: Configuration,
+    pub(crate) newest_ring: Configuration,
     pub(crate) installed: Configuration,
     pub(crate) gather: Gather,
     /// The kept token: the last token or commit token sent since Gather was entered.
     pub(crate) last_sent: Option<OutgoingFrame<A>>,
     pub(crate) queue: VecDeque<Payload<A>, A>,
     /// The window and the visits of the installed ring.
-    pub(crate) kept: RingPart<A>,
+    pub(crate) installed_part: WindowAndVisits<A>,
     /// The state of Recovery, with the window and the visits of the running ring. It is `None` in every other state.
     pub(crate) recovery: Option<RecoveryState<A>>,
     /// The messages taken, sent or unwrapped, newest first.
@@ -49,10 +51,10 @@ impl<A: Allocator + Copy> Model for RunningCore<A> {
 
     ghost Value = { Core A };
 
-    ghost view = { λ m. core_of m.me m.fixed.count m.state m.running m.installed m.gather.gathering m.last_sent m.queue.items m.held.value m.history.value };
+    ghost view = { λ m. core_of m.me m.fixed.count m.state m.newest_ring m.installed m.gather.gathering m.last_sent m.queue.items m.held.value m.history.value };
 
-    ghost invariant = { λ m. IsRunningCore (core_of m.me m.fixed.count m.state m.running m.installed m.gather.gathering
-        m.last_sent m.queue.items m.held.value m.history.value) m.gather m.kept.window m.kept.visit m.recovery };
+    ghost invariant = { λ m. IsRunningCore (core_of m.me m.fixed.count m.state m.newest_ring m.installed m.gather.gathering
+        m.last_sent m.queue.items m.held.value m.history.value) m.gather m.installed_part.window m.installed_part.visit m.recovery };
 }
 
 impl<A: Allocator + Copy> RunningCore<A> {
@@ -72,21 +74,21 @@ impl<A: Allocator + Copy> RunningCore<A> {
         ensures ok { IfOk result (λ running_core. running_core ≡ opening fixed.count me) }
         ensures refused { IfErr result (λ fault. fault ≡ Memory) }
     {
-        let kept = RingPart::new(alloc, me, RingId { seq: 0, rep: me })?;
+        let kept = WindowAndVisits::new(alloc, me, RingId { seq: 0, rep: me })?;
         Ok(RunningCore {
             alloc,
             me,
             fixed,
             state: State::Gather,
-            running: alone(me),
-            installed: alone(me),
+            newest_ring: opening_ring(me),
+            installed: opening_ring(me),
             gather: Gather::new(me, 0, fixed.everybody()),
             last_sent: None,
             queue: VecDeque::new(alloc),
-            kept,
+            installed_part: kept,
             recovery: None,
-            held: none(),
-            history: opened(fixed, me),
+            held: empty_ghost_list(),
+            history: opening_history(fixed, me),
         })
     }
 
@@ -102,26 +104,26 @@ impl<A: Allocator + Copy> RunningCore<A> {
         ensures ok { IfOk result (λ running_core. running_core ≡ formed fixed.count me) }
         ensures refused { IfErr result (λ fault. fault ≡ Memory) }
     {
-        let kept = RingPart::new(alloc, me, all_of(fixed).ring)?;
+        let kept = WindowAndVisits::new(alloc, me, formed_ring(fixed).ring)?;
         Ok(RunningCore {
             alloc,
             me,
             fixed,
             state: State::Operational,
-            running: all_of(fixed),
-            installed: all_of(fixed),
+            newest_ring: formed_ring(fixed),
+            installed: formed_ring(fixed),
             gather: Gather::new(me, 0, fixed.everybody()),
             last_sent: None,
             queue: VecDeque::new(alloc),
-            kept,
+            installed_part: kept,
             recovery: None,
-            held: none(),
-            history: formed_of(fixed, me),
+            held: empty_ghost_list(),
+            history: formed_history(fixed, me),
         })
     }
 
     /// Returns an empty list with the core's allocator, for frames or outputs. Does not allocate.
-    pub fn list<T>(&self) -> Vec<T, A>
+    pub fn empty_list<T>(&self) -> Vec<T, A>
         ensures { result.items ≡ [] }
     {
         Vec::new(self.alloc)
@@ -155,7 +157,7 @@ impl<A: Allocator + Copy> RunningCore<A> {
     pub(crate) fn floor(&self) -> u64
         ensures { result ≡ floor self.now }
     {
-        self.running.ring.seq
+        self.newest_ring.ring.seq
     }
 
     /// Returns the core's own entry: what it would report now about its last installed ring.
@@ -164,7 +166,7 @@ impl<A: Allocator + Copy> RunningCore<A> {
     pub(crate) fn own_entry(&self) -> CommitEntry
         ensures { result ≡ own_entry self.now }
     {
-        let window = &self.kept.window;
+        let window = &self.installed_part.window;
         CommitEntry {
             old: self.installed.ring,
             front: window.front(),
@@ -178,33 +180,33 @@ impl<A: Allocator + Copy> RunningCore<A> {
     /// That is the running ring in Recovery, and the last installed one in every other state.
     ///
     /// Rules: Token and window 11
-    pub(crate) fn part(&self) -> &RingPart<A>
+    pub(crate) fn part_in_use(&self) -> &WindowAndVisits<A>
         ensures taken { IsPart self.now (ring_in_use self.now.state self.now) result.now.window result.now.visit }
         ensures running { is_running self.now.state ≡ true → IsPart self.now self.now.running.ring result.now.window result.now.visit }
     {
         match &self.recovery {
             Some(recovery_state) if self.state == State::Recovery => &recovery_state.part,
-            _ => &self.kept,
+            _ => &self.installed_part,
         }
     }
 }
 
 /// Returns the opening ring of a processor: number 0, with the processor as its only member.
-fn alone(me: Proc) -> Configuration
-    ensures value { result ≡ alone me }
+fn opening_ring(me: Proc) -> Configuration
+    ensures value { result ≡ opening_ring me }
     ensures member { IsMember result.members me }
 {
     Configuration {
         ring: RingId { seq: 0, rep: me },
-        members: ProcSet::only(me),
+        members: ProcSet::singleton(me),
     }
 }
 
 /// Returns the formed ring (1, 1), whose members are all processors 1 to N.
 ///
 /// Rules: Rings and states 14
-pub fn all_of(fixed: Fixed) -> Configuration
-    ensures { result ≡ all_of fixed.count }
+pub fn formed_ring(fixed: Fixed) -> Configuration
+    ensures { result ≡ formed_ring_of fixed.count }
 {
     Configuration {
         ring: RingId {

@@ -3,7 +3,7 @@
 //! Rules: Rings and states 8 and 9; Timeouts 2
 
 use ring_payload::Payload;
-use ring_wire::{CommitBox, Join, Message, Token};
+use ring_wire::{BoxedCommitToken, Join, Message, Token};
 use std::alloc::{Allocator, Global};
 
 /// The transition that [`RunningCore::decide`](crate::RunningCore::decide) chose for an input.
@@ -72,9 +72,9 @@ pub enum Transition<A: Allocator + Copy = Global> {
     /// The commit token is in its first round: the node adds its entry and is then in Commit.
     ///
     /// Rules: The commit token 5
-    Fill(CommitBox<A>),
+    Fill(BoxedCommitToken<A>),
     /// The commit token is in its second round: the node makes its plan and is then in Recovery.
     ///
     /// Rules: The commit token 6
-    Learn(CommitBox<A>),
+    Learn(BoxedCommitToken<A>),
 }

@@ -8,21 +8,21 @@
 ghost use Rattle.std.specs.Prelude.{◌≡◌, ◌≤◌, ◌++◌, ◌∷◌, [], true, length, IfOk, IfErr, OnOk};
 ghost use Rattle.ring_base.specs.declared.fault.Fault.TheVariants.{Memory};
 ghost use Rattle.ring_base.specs.Processors.{only, less};
-ghost use Rattle.ring_token.specs.Visits.{room, requests_left};
+ghost use Rattle.ring_token.specs.Visits.{max_new_messages, requests_left};
 ghost use Rattle.ring_window.specs.Held.{holds};
 ghost use Rattle.ring_wire.specs.declared.frame.Frame.TheVariants.{Message as MessageFrame};
 ghost use Rattle.ring_srp_transitions.specs.Allowing.{VisitAllowed};
-ghost use Rattle.ring_core_spec.specs.Giving.{addressed};
+ghost use Rattle.ring_core_spec.specs.Giving.{sends_with_receivers};
 ghost use Rattle.ring_srp_transitions.specs.RunningCores.{is_running, ring_in_use};
 ghost use Rattle.ring_srp_transitions.specs.Sending.{messages_of_payloads, holding};
 ghost use Rattle.ring_core_spec.specs.Views.{mark, takes_number};
-ghost use Rattle.ring_core_spec.specs.Visiting.{accepts, repeated, room_at, new_payloads, queue_after, to_others, token_visited};
+ghost use Rattle.ring_core_spec.specs.Visiting.{accepts, messages_sent_again, room_at, new_payloads, queue_after, to_others, token_visited};
 
 use crate::running_core::RunningCore;
 use ring_base::{Fault, Ghost, MAX, ProcSet, State, VISIT_LIMIT, WINDOW_SIZE};
 use ring_core_spec::{Out, OutgoingFrame};
 use ring_payload::Payload;
-use ring_srp_state::{none, one_last, send_message, take_packed};
+use ring_srp_state::{empty_ghost_list, ghost_list_with_last, send_message, take_packed};
 use ring_token::requests_left;
 use ring_wire::{Message, Requests, Token};
 use std::alloc::Allocator;
@@ -44,30 +44,30 @@ impl<A: Allocator + Copy> RunningCore<A> {
     ) -> Result<(), Fault>
         requires { VisitAllowed self.old token.now }
         ensures core { OnOk result (self.new ≡ (token_visited self.old token.now).core) }
-        ensures sends { OnOk result (sends.new.items ≡ sends.old.items ++ addressed (token_visited self.old token.now).sends) }
+        ensures sends { OnOk result (sends.new.items ≡ sends.old.items ++ sends_with_receivers (token_visited self.old token.now).sends) }
         ensures refused { IfErr result (λ fault. fault ≡ Memory) }
     {
         if token.requests.as_slice().is_empty() {
-            self.visit_asked(token, &token.requests, sends)
+            self.visit_with_remaining(token, &token.requests, sends)
         } else {
-            self.visit_asking(token, sends)
+            self.visit_with_requests(token, sends)
         }
     }
 
     /// Does the same for a token with requests, some of which may remain.
     #[inline(never)]
-    fn visit_asking(
+    fn visit_with_requests(
         &mut self,
         token: &Token,
         sends: &mut Vec<OutgoingFrame<A>, A>,
     ) -> Result<(), Fault>
         requires { VisitAllowed self.old token.now }
         ensures core { OnOk result (self.new ≡ (token_visited self.old token.now).core) }
-        ensures sends { OnOk result (sends.new.items ≡ sends.old.items ++ addressed (token_visited self.old token.now).sends) }
+        ensures sends { OnOk result (sends.new.items ≡ sends.old.items ++ sends_with_receivers (token_visited self.old token.now).sends) }
         ensures refused { IfErr result (λ fault. fault ≡ Memory) }
     {
         let remaining_requests = self.remaining_requests(token);
-        self.visit_asked(token, &remaining_requests, sends)
+        self.visit_with_remaining(token, &remaining_requests, sends)
     }
 
     /// Returns an empty list with capacity for the outputs of the coming visit: an `Agreed` for each new message, and a
@@ -96,7 +96,7 @@ impl<A: Allocator + Copy> RunningCore<A> {
     }
 
     /// Visits an accepted token, with `remaining_requests` as those of its requests that stay.
-    fn visit_asked(
+    fn visit_with_remaining(
         &mut self,
         token: &Token,
         remaining_requests: &Requests,
@@ -105,13 +105,13 @@ impl<A: Allocator + Copy> RunningCore<A> {
         requires allowed { VisitAllowed self.old token.now }
         requires remaining_requests { remaining_requests.now ≡ requests_left (mark self.old token.now.ring) (holds self.old.held token.now.ring) token.now.requests }
         ensures core { OnOk result (self.new ≡ (token_visited self.old token.now).core) }
-        ensures sends { OnOk result (sends.new.items ≡ sends.old.items ++ addressed (token_visited self.old token.now).sends) }
+        ensures sends { OnOk result (sends.new.items ≡ sends.old.items ++ sends_with_receivers (token_visited self.old token.now).sends) }
         ensures refused { IfErr result (λ fault. fault ≡ Memory) }
     {
         self.repeat_requested(token, sends)?;
         let payloads = self.new_payloads(token)?;
         let count = payloads.len() as u64;
-        let fresh = self.send_new(token, payloads, sends)?;
+        let fresh = self.send_new_messages(token, payloads, sends)?;
         self.pass_token(token, remaining_requests, count, &fresh, sends)
     }
 
@@ -121,18 +121,20 @@ impl<A: Allocator + Copy> RunningCore<A> {
         requires passes { accepts self.now token.now ≡ true }
         ensures { result ≡ requests_left (mark self.now token.now.ring) (holds self.now.held token.now.ring) token.now.requests }
     {
-        let part = self.part();
+        let part = self.part_in_use();
         requests_left(
             &token.requests,
             part.visit.safe(),
-            |number| part.window.holds(number),
+            |number| part.window.has_taken(number),
         )
     }
 
-    fn others(&self) -> ProcSet
+    fn other_members(&self) -> ProcSet
         ensures { result ≡ less self.now.running.members (only self.now.me) }
     {
-        self.running.members.less(ProcSet::only(self.me))
+        self.newest_ring
+            .members
+            .without_members(ProcSet::singleton(self.me))
     }
 
     /// Sends the requested messages that are held to all other members again.
@@ -143,11 +145,11 @@ impl<A: Allocator + Copy> RunningCore<A> {
     ) -> Result<(), Fault>
         requires runs { is_running self.now.state ≡ true }
         requires passes { accepts self.now token.now ≡ true }
-        ensures ok { OnOk result (sends.new.items ≡ sends.old.items ++ addressed (to_others self.now (repeated self.now token.now))) }
+        ensures ok { OnOk result (sends.new.items ≡ sends.old.items ++ sends_with_receivers (to_others self.now (messages_sent_again self.now token.now))) }
         ensures refused { IfErr result (λ fault. fault ≡ Memory) }
     {
-        let others = self.others();
-        let window = &self.part().window;
+        let others = self.other_members();
+        let window = &self.part_in_use().window;
         for &number in token.requests.as_slice() {
             if let Some(message) = window.get(number) {
                 send_message(sends, others, message)?;
@@ -168,7 +170,7 @@ impl<A: Allocator + Copy> RunningCore<A> {
         ensures core { OnOk result (self.new ≡ record self.old { queue = queue_after self.old.state (room_at self.old token.now) self.old.queue }) }
         ensures refused { IfErr result (λ fault. fault ≡ Memory) }
     {
-        let room = room(self.part().visit.safe(), token.seq);
+        let room = max_new_messages(self.part_in_use().visit.safe(), token.seq);
         match self.state {
             State::Recovery => self.recovery_messages(room),
             State::Operational => take_packed(self.alloc, &mut self.queue, room),
@@ -177,7 +179,7 @@ impl<A: Allocator + Copy> RunningCore<A> {
     }
 
     /// Sends the new messages, numbered from `seq` + 1 on, and holds them. Returns their payloads, for contracts.
-    fn send_new(
+    fn send_new_messages(
         &mut self,
         token: &Token,
         payloads: Vec<Payload<A>, A>,
@@ -185,21 +187,21 @@ impl<A: Allocator + Copy> RunningCore<A> {
     ) -> Result<Ghost<[Payload<A>; 0]>, Fault>
         requires passes { accepts self.old token.now ≡ true }
         requires runs { is_running self.old.state ≡ true }
-        requires count { length payloads.items ≤ room (mark self.old token.now.ring) token.now.seq }
+        requires count { length payloads.items ≤ max_new_messages (mark self.old token.now.ring) token.now.seq }
         ensures fresh { IfOk result (λ fresh. fresh.value ≡ payloads.items) }
         ensures core { OnOk result (self.new ≡ holding self.old token.now payloads.items) }
-        ensures sends { OnOk result (sends.new.items ≡ sends.old.items ++ addressed (to_others self.old (messages_of_payloads self.old token.now payloads.items))) }
+        ensures sends { OnOk result (sends.new.items ≡ sends.old.items ++ sends_with_receivers (to_others self.old (messages_of_payloads self.old token.now payloads.items))) }
         ensures refused { IfErr result (λ fault. fault ≡ Memory) }
     {
         if payloads.is_empty() {
-            return Ok(none());
+            return Ok(empty_ghost_list());
         }
-        self.send_all(token, payloads, sends)
+        self.send_each_new(token, payloads, sends)
     }
 
     /// Does the same if there are new messages.
     #[inline(never)]
-    fn send_all(
+    fn send_each_new(
         &mut self,
         token: &Token,
         payloads: Vec<Payload<A>, A>,
@@ -207,19 +209,19 @@ impl<A: Allocator + Copy> RunningCore<A> {
     ) -> Result<Ghost<[Payload<A>; 0]>, Fault>
         requires passes { accepts self.old token.now ≡ true }
         requires runs { is_running self.old.state ≡ true }
-        requires count { length payloads.items ≤ room (mark self.old token.now.ring) token.now.seq }
+        requires count { length payloads.items ≤ max_new_messages (mark self.old token.now.ring) token.now.seq }
         ensures fresh { IfOk result (λ fresh. fresh.value ≡ payloads.items) }
         ensures core { OnOk result (self.new ≡ holding self.old token.now payloads.items) }
-        ensures sends { OnOk result (sends.new.items ≡ sends.old.items ++ addressed (to_others self.old (messages_of_payloads self.old token.now payloads.items))) }
+        ensures sends { OnOk result (sends.new.items ≡ sends.old.items ++ sends_with_receivers (to_others self.old (messages_of_payloads self.old token.now payloads.items))) }
         ensures refused { IfErr result (λ fault. fault ≡ Memory) }
     {
-        let others = self.others();
+        let others = self.other_members();
         let me = self.me;
-        let mut fresh = none();
+        let mut fresh = empty_ghost_list();
         let mut number = token.seq;
         for payload in payloads {
             number += 1;
-            fresh = one_last(&fresh, &payload);
+            fresh = ghost_list_with_last(&fresh, &payload);
             let message = Message {
                 ring: token.ring,
                 number,
@@ -243,7 +245,7 @@ impl<A: Allocator + Copy> RunningCore<A> {
         requires ring { message.ring ≡ ring_in_use self.old.state self.old }
         requires new { takes_number self.old message.ring message.number ≡ true }
         ensures core { OnOk result (self.new ≡ record self.old { held = message ∷ self.old.held }) }
-        ensures sends { OnOk result (sends.new.items ≡ sends.old.items ++ addressed (record { to = to; frame = MessageFrame message } ∷ [])) }
+        ensures sends { OnOk result (sends.new.items ≡ sends.old.items ++ sends_with_receivers (record { to = to; frame = MessageFrame message } ∷ [])) }
         ensures refused { IfErr result (λ fault. fault ≡ Memory) }
     {
         send_message(sends, to, &message)?;
@@ -255,9 +257,9 @@ impl<A: Allocator + Copy> RunningCore<A> {
 /// Returns the maximum number of new messages in a visit: at most 8, up to the end of the window and up to `MAX`.
 ///
 /// `mark` is the member's safe mark, and must be at most the token's `seq`.
-fn room(mark: u64, seq: u64) -> u64
+fn max_new_messages(mark: u64, seq: u64) -> u64
     requires { mark ≤ seq }
-    ensures { result ≡ room mark seq }
+    ensures { result ≡ max_new_messages mark seq }
 {
     let in_window = WINDOW_SIZE.saturating_sub(seq - mark);
     VISIT_LIMIT.min(in_window).min(MAX.saturating_sub(seq))

@@ -5,7 +5,7 @@
 ghost use Rattle.std.specs.Prelude.{◌≡◌, ◌+◌, ◌<◌, IfOk, IfErr};
 ghost use Rattle.ring_base.specs.declared.fault.Fault.TheVariants.{Memory};
 ghost use Rattle.ring_base.specs.declared.state.State.TheVariants.{Recovery as InRecovery};
-ghost use Rattle.ring_core_spec.specs.Visiting.{offers};
+ghost use Rattle.ring_core_spec.specs.Visiting.{payloads_to_send};
 
 use crate::running_core::RunningCore;
 use ring_base::Fault;
@@ -24,12 +24,17 @@ impl<A: Allocator + Copy> RunningCore<A> {
     /// Rules: Recovery 4
     pub(crate) fn recovery_messages(&self, most: u64) -> Result<Vec<Payload<A>, A>, Fault>
         requires { self.now.state ≡ InRecovery }
-        ensures items { IfOk result (λ payloads. payloads.items ≡ offers InRecovery self.now most) }
+        ensures items { IfOk result (λ payloads. payloads.items ≡ payloads_to_send InRecovery self.now most) }
         ensures refused { IfErr result (λ fault. fault ≡ Memory) }
     {
         match &self.recovery {
             Some(recovery_state) => {
-                first_recovery_messages(self.alloc, &recovery_state.plan, &self.kept.window, most)
+                first_recovery_messages(
+                    self.alloc,
+                    &recovery_state.plan,
+                    &self.installed_part.window,
+                    most,
+                )
             }
             None => Ok(Vec::new(self.alloc)),
         }

@@ -63,12 +63,12 @@ around_line r old mid new text injected number begin taken asked found next begi
     subst (λ (n : ℕ). OnOk r (Appends old new (take n text ++ with_injected asked taken injected (drop n text)))) begin_is
     (then_text r old mid new (take begin text) (with_injected asked taken injected (drop begin text)) first behind)
 
-module _ {A T E : Type 0} (r : Result T E) (old new : Option (List ℕ)) (text : List ℕ) (counted count : ℕ) (u : Injection) (put_in : InjectedLines) where
+module _ {A T E : Type 0} (r : Result T E) (old new : Option (List ℕ)) (text : List ℕ) (counted count : ℕ) (u : Injection) (added_lines : InjectedLines) where
   -- The position is at a line.
   pub at_line : (found : Option (NumberedLine A)) (next : NumberedLine A) (taken : ℕ) → Some next ≡ found
-      → put_in ≡ record { injection = u; count = counted; events = u.before + 1 } → counted ≡ count
+      → added_lines ≡ record { injection = u; count = counted; events = u.before + 1 } → counted ≡ count
       → OnOk r (Appends old new (first_lines (next.number - 1) text ++ with_injected (split_turns next.line taken) taken
-      (injected_lines put_in.count put_in.events put_in.injection) (lines_after (next.number - 1) text)))
+      (injected_lines added_lines.count added_lines.events added_lines.injection) (lines_after (next.number - 1) text)))
       → OnOk r (Appends old new (text_with_injection text found taken count u))
   at_line found next taken found_is put_in_is counted_is printed =
       let around : List ℕ → List ℕ = λ lines.
@@ -79,8 +79,8 @@ module _ {A T E : Type 0} (r : Result T E) (old new : Option (List ℕ)) (text :
 
   -- The position is at the end.
   pub at_end : (found : Option (NumberedLine A)) (taken : ℕ) → None ≡ found
-      → put_in ≡ record { injection = u; count = counted; events = u.before } → counted ≡ count
-      → OnOk r (Appends old new (ended_text text ++ injected_lines put_in.count put_in.events put_in.injection))
+      → added_lines ≡ record { injection = u; count = counted; events = u.before } → counted ≡ count
+      → OnOk r (Appends old new (ended_text text ++ injected_lines added_lines.count added_lines.events added_lines.injection))
       → OnOk r (Appends old new (text_with_injection text found taken count u))
   at_end found taken found_is put_in_is counted_is printed =
       subst (λ (f : Option (NumberedLine A)). OnOk r (Appends old new (text_with_injection text f taken count u))) found_is

@@ -35,8 +35,8 @@ impl<O: Object> BaseRun<O> {
     ///
     /// Errors: `Memory` if an allocation fails.
     pub fn new(alloc: O::Alloc, nodes: Fixed) -> Result<BaseRun<O>, Fault>
-        ensures counted_run { IfOk result (λ ahead. (ahead.counted_run.run ≡ run_opening nodes) × (ahead.counted_run.done ≡ 0)) }
-        ensures place { IfOk result (λ ahead. (ahead.lines ≡ 0) × (ahead.turns ≡ 0)) }
+        ensures counted_run { IfOk result (λ base_run. (base_run.counted_run.run ≡ run_opening nodes) × (base_run.counted_run.events_done ≡ 0)) }
+        ensures place { IfOk result (λ base_run. (base_run.lines ≡ 0) × (base_run.turns ≡ 0)) }
         ensures refused { IfErr result (λ fault. fault ≡ Memory) }
     {
         let counted_run = CountedRun::new(alloc, nodes)?;
@@ -58,12 +58,12 @@ impl<O: Object> BaseRun<O> {
     /// Formats: The command line
     pub fn go_to(&mut self, script: &Script<O::Alloc>, before: u64) -> Result<(), Fault>
         requires fit { AreFit script.now.lines.items }
-        requires come { HasReachedEvent O.sequential script.now.nodes script.now.lines.items self.old.lines self.old.turns self.old.counted_run.done self.old.counted_run.run }
-        requires most { self.old.counted_run.done ≤ before }
+        requires come { HasReachedEvent O.sequential script.now.nodes script.now.lines.items self.old.lines self.old.turns self.old.counted_run.events_done self.old.counted_run.run }
+        requires most { self.old.counted_run.events_done ≤ before }
         ensures come { OnOk result
-            (HasReachedEvent O.sequential script.now.nodes script.now.lines.items self.new.lines self.new.turns self.new.counted_run.done self.new.counted_run.run) }
+            (HasReachedEvent O.sequential script.now.nodes script.now.lines.items self.new.lines self.new.turns self.new.counted_run.events_done self.new.counted_run.run) }
         ensures due { OnOk result
-            (IsDue O.sequential (left_of script.now.lines.items self.new.lines self.new.turns) self.new.counted_run.done before self.new.counted_run.run) }
+            (IsDue O.sequential (left_of script.now.lines.items self.new.lines self.new.turns) self.new.counted_run.events_done before self.new.counted_run.run) }
         ensures step { OnOk result (IsBeforeStep script.now.lines.items self.new.lines self.new.turns) }
         ensures refused { IfErr result (λ fault. fault ≡ Memory) }
     {
@@ -93,13 +93,13 @@ impl<O: Object> BaseRun<O> {
         injection: Injection,
     ) -> Result<(), Fault>
         requires fit { AreFit script.now.lines.items }
-        requires come { HasReachedEvent O.sequential script.now.nodes script.now.lines.items self.now.lines self.now.turns self.now.counted_run.done self.now.counted_run.run }
-        requires due { IsDue O.sequential (left_of script.now.lines.items self.now.lines self.now.turns) self.now.counted_run.done injection.before self.now.counted_run.run }
-        requires copy { (copy.old.run ≡ self.now.counted_run.run) × (copy.old.done ≡ self.now.counted_run.done) }
+        requires come { HasReachedEvent O.sequential script.now.nodes script.now.lines.items self.now.lines self.now.turns self.now.counted_run.events_done self.now.counted_run.run }
+        requires due { IsDue O.sequential (left_of script.now.lines.items self.now.lines self.now.turns) self.now.counted_run.events_done injection.before self.now.counted_run.run }
+        requires copy { (copy.old.run ≡ self.now.counted_run.run) × (copy.old.events_done ≡ self.now.counted_run.events_done) }
         ensures ok { OnOk result (IsVariant O.sequential (steps_of script.now.lines.items) injection 0 (run_opening script.now.nodes) copy.new.run) }
         ensures refused { IfErr result (λ fault. fault ≡ Memory) }
     {
-        copy.put_in(injection)?;
+        copy.carry_out_injection(injection)?;
         self.finish(copy, script.lines.as_slice())
     }
 
@@ -112,7 +112,7 @@ impl<O: Object> BaseRun<O> {
         lines: &[NumberedLine<O::Alloc>],
     ) -> Result<(), Fault>
         requires { AreFit lines.now }
-        ensures ok { OnOk result (AreStepsDone O.sequential (left_of lines.now self.now.lines self.now.turns) copy.old.done copy.new.done copy.old.run copy.new.run) }
+        ensures ok { OnOk result (AreStepsDone O.sequential (left_of lines.now self.now.lines self.now.turns) copy.old.events_done copy.new.events_done copy.old.run copy.new.run) }
         ensures refused { IfErr result (λ fault. fault ≡ Memory) }
     {
         match lines.get(self.lines) {

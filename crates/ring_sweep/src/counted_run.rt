@@ -28,7 +28,7 @@ pub(crate) struct CountedRun<O: Object> {
     /// The run of the script.
     pub run: ScriptRun<O>,
     /// The number of the script's events run so far.
-    pub done: u64,
+    pub events_done: u64,
 }
 
 impl<O: Object> CountedRun<O> {
@@ -36,11 +36,14 @@ impl<O: Object> CountedRun<O> {
     ///
     /// Errors: `Memory` if an allocation fails.
     pub fn new(alloc: O::Alloc, nodes: Fixed) -> Result<CountedRun<O>, Fault>
-        ensures ok { IfOk result (λ counted_run. (counted_run.run ≡ run_opening nodes) × (counted_run.done ≡ 0)) }
+        ensures ok { IfOk result (λ counted_run. (counted_run.run ≡ run_opening nodes) × (counted_run.events_done ≡ 0)) }
         ensures refused { IfErr result (λ fault. fault ≡ Memory) }
     {
         let run = ScriptRun::new(alloc, nodes)?;
-        Ok(CountedRun { run, done: 0 })
+        Ok(CountedRun {
+            run,
+            events_done: 0,
+        })
     }
 
     /// Returns a copy of this run.
@@ -50,13 +53,13 @@ impl<O: Object> CountedRun<O> {
     /// Errors: `Memory` if an allocation fails; this run is unchanged.
     pub fn copy(&self) -> Result<CountedRun<O>, Fault>
         ensures run { IfOk result (λ copy. copy.run ≡ self.now.run) }
-        ensures done { IfOk result (λ copy. copy.done ≡ self.now.done) }
+        ensures done { IfOk result (λ copy. copy.events_done ≡ self.now.events_done) }
         ensures refused { IfErr result (λ fault. fault ≡ Memory) }
     {
         let run = self.run.copy()?;
         Ok(CountedRun {
             run,
-            done: self.done,
+            events_done: self.events_done,
         })
     }
 
@@ -69,9 +72,9 @@ impl<O: Object> CountedRun<O> {
 
     /// Returns the number of the script's events run so far, without injected events.
     pub fn done(&self) -> u64
-        ensures { result ≡ self.now.done }
+        ensures { result ≡ self.now.events_done }
     {
-        self.done
+        self.events_done
     }
 
     /// Carries out the requests of the lines in order, and counts their events.
@@ -81,7 +84,7 @@ impl<O: Object> CountedRun<O> {
     /// Formats: The command line
     pub fn run_lines(&mut self, lines: &[NumberedLine<O::Alloc>]) -> Result<(), Fault>
         requires { AreFit lines.now }
-        ensures ok { OnOk result (AreStepsDone O.sequential (steps_of lines.now) self.old.done self.new.done self.old.run self.new.run) }
+        ensures ok { OnOk result (AreStepsDone O.sequential (steps_of lines.now) self.old.events_done self.new.events_done self.old.run self.new.run) }
         ensures refused { IfErr result (λ fault. fault ≡ Memory) }
     {
         for numbered in lines {
@@ -99,7 +102,7 @@ impl<O: Object> CountedRun<O> {
     /// Formats: The command line
     pub fn take_line(&mut self, line: &ScriptLine<O::Alloc>, taken: u32) -> Result<(), Fault>
         requires { IsFit line.now }
-        ensures ok { OnOk result (AreStepsDone O.sequential (left_in line.now taken) self.old.done self.new.done self.old.run self.new.run) }
+        ensures ok { OnOk result (AreStepsDone O.sequential (left_in line.now taken) self.old.events_done self.new.events_done self.old.run self.new.run) }
         ensures refused { IfErr result (λ fault. fault ≡ Memory) }
     {
         match line {
@@ -125,7 +128,7 @@ impl<O: Object> CountedRun<O> {
     ) -> Result<Option<u32>, Fault>
         requires fit { IsFit line.now }
         requires within { IsWithin line.now taken }
-        ensures ok { IfOk result (λ turns. IsUntil O.sequential line.now taken before turns self.old.done self.new.done self.old.run self.new.run) }
+        ensures ok { IfOk result (λ turns. IsUntil O.sequential line.now taken before turns self.old.events_done self.new.events_done self.old.run self.new.run) }
         ensures refused { IfErr result (λ fault. fault ≡ Memory) }
     {
         match line {
@@ -141,19 +144,19 @@ impl<O: Object> CountedRun<O> {
     /// Errors: `Memory` if an allocation fails; the run is then unspecified.
     ///
     /// Formats: The command line
-    pub fn put_in(&mut self, injection: Injection) -> Result<(), Fault>
+    pub fn carry_out_injection(&mut self, injection: Injection) -> Result<(), Fault>
         ensures ok { OnOk result (IsLineDone O.sequential (line_of_injection injection) self.old.run self.new.run) }
-        ensures done { self.new.done ≡ self.old.done }
+        ensures done { self.new.events_done ≡ self.old.events_done }
         ensures refused { IfErr result (λ fault. fault ≡ Memory) }
     {
-        self.run.perform(injection.line())
+        self.run.run_line_silently(injection.injected_request())
     }
 
     /// Takes `turns` turns of a pump.
     ///
     /// If no copy is open any more, the remaining ones do nothing.
     fn take_turns(&mut self, turns: u32) -> Result<(), Fault>
-        ensures ok { OnOk result (AreStepsDone O.sequential (replicate turns turn) self.old.done self.new.done self.old.run self.new.run) }
+        ensures ok { OnOk result (AreStepsDone O.sequential (replicate turns turn) self.old.events_done self.new.events_done self.old.run self.new.run) }
         ensures refused { IfErr result (λ fault. fault ≡ Memory) }
     {
         for _ in 0..turns {
@@ -167,7 +170,7 @@ impl<O: Object> CountedRun<O> {
 
     /// Takes a turn of a pump.
     fn take_turn(&mut self) -> Result<(), Fault>
-        ensures ok { OnOk result (AreStepsDone O.sequential (turn ∷ []) self.old.done self.new.done self.old.run self.new.run) }
+        ensures ok { OnOk result (AreStepsDone O.sequential (turn ∷ []) self.old.events_done self.new.events_done self.old.run self.new.run) }
         ensures refused { IfErr result (λ fault. fault ≡ Memory) }
     {
         self.step(&ScriptLine::Pump { turns: 1 })
@@ -178,7 +181,7 @@ impl<O: Object> CountedRun<O> {
     /// Returns the number of turns before that event, or `None` if it isn't in this pump.
     fn take_turns_until(&mut self, turns: u32, from: u32, before: u64) -> Result<Option<u32>, Fault>
         requires { from ≤ turns }
-        ensures ok { IfOk result (λ taken. IsUntil O.sequential (Pump turns) from before taken self.old.done self.new.done self.old.run self.new.run) }
+        ensures ok { IfOk result (λ taken. IsUntil O.sequential (Pump turns) from before taken self.old.events_done self.new.events_done self.old.run self.new.run) }
         ensures refused { IfErr result (λ fault. fault ≡ Memory) }
     {
         for taken in from..turns {
@@ -195,18 +198,18 @@ impl<O: Object> CountedRun<O> {
 
     /// Returns whether the next turn of a pump is the event after `before` others.
     fn is_turn_due(&self, before: u64) -> bool
-        ensures { result ≡ (is_event self.now.run turn && self.now.done == before) }
+        ensures { result ≡ (is_event self.now.run turn && self.now.events_done == before) }
     {
-        self.comes(&ScriptLine::Pump { turns: 1 }, before)
+        self.is_event_due(&ScriptLine::Pump { turns: 1 }, before)
     }
 
     /// Carries out a step, unless it is the event after `before` others.
     fn step_until(&mut self, line: &ScriptLine<O::Alloc>, before: u64) -> Result<Option<u32>, Fault>
         requires { IsFit line.now }
-        ensures ok { IfOk result (λ turns. IsStepUntil O.sequential line.now before turns self.old.done self.new.done self.old.run self.new.run) }
+        ensures ok { IfOk result (λ turns. IsStepUntil O.sequential line.now before turns self.old.events_done self.new.events_done self.old.run self.new.run) }
         ensures refused { IfErr result (λ fault. fault ≡ Memory) }
     {
-        if self.comes(line, before) {
+        if self.is_event_due(line, before) {
             return Ok(Some(0));
         }
         self.step(line)?;
@@ -214,33 +217,33 @@ impl<O: Object> CountedRun<O> {
     }
 
     /// Returns whether the step is the event after `before` others.
-    fn comes(&self, line: &ScriptLine<O::Alloc>, before: u64) -> bool
-        ensures { result ≡ (is_event self.now.run line.now && self.now.done == before) }
+    fn is_event_due(&self, line: &ScriptLine<O::Alloc>, before: u64) -> bool
+        ensures { result ≡ (is_event self.now.run line.now && self.now.events_done == before) }
     {
-        self.is_event(line) && self.done == before
+        self.is_event(line) && self.events_done == before
     }
 
     /// Carries out a step of the script.
     fn step(&mut self, line: &ScriptLine<O::Alloc>) -> Result<(), Fault>
         requires { IsFit line.now }
-        ensures ok { OnOk result (AreStepsDone O.sequential (line.now ∷ []) self.old.done self.new.done self.old.run self.new.run) }
+        ensures ok { OnOk result (AreStepsDone O.sequential (line.now ∷ []) self.old.events_done self.new.events_done self.old.run self.new.run) }
         ensures refused { IfErr result (λ fault. fault ≡ Memory) }
     {
         let is_event = self.is_event(line);
-        self.count(is_event)?;
+        self.count_if_event(is_event)?;
         self.perform(line)
     }
 
     /// Counts the step if it is an event.
     ///
     /// Errors: `Memory` if the count exceeds a u64, which no world reaches.
-    fn count(&mut self, is_event: bool) -> Result<(), Fault>
-        ensures ok { OnOk result (self.new.done ≡ self.old.done + bit is_event) }
+    fn count_if_event(&mut self, is_event: bool) -> Result<(), Fault>
+        ensures ok { OnOk result (self.new.events_done ≡ self.old.events_done + bit is_event) }
         ensures run { self.new.run ≡ self.old.run }
         ensures refused { IfErr result (λ fault. fault ≡ Memory) }
     {
         if is_event {
-            self.done = self.done.checked_add(1).ok_or(Fault::Memory)?;
+            self.events_done = self.events_done.checked_add(1).ok_or(Fault::Memory)?;
         }
         Ok(())
     }
@@ -249,11 +252,11 @@ impl<O: Object> CountedRun<O> {
     fn perform(&mut self, line: &ScriptLine<O::Alloc>) -> Result<(), Fault>
         requires { IsFit line.now }
         ensures ok { OnOk result (IsLineDone O.sequential line.now self.old.run self.new.run) }
-        ensures done { self.new.done ≡ self.old.done }
+        ensures done { self.new.events_done ≡ self.old.events_done }
         ensures refused { IfErr result (λ fault. fault ≡ Memory) }
     {
         let copy = copy_line(line)?;
-        self.run.perform(copy)
+        self.run.run_line_silently(copy)
     }
 
     /// Returns whether the step is an event of the script.

@@ -49,7 +49,7 @@ impl Injection {
     /// Before each event in turn, each node is first stopped and then cut off, in the order of the nodes.
     ///
     /// Formats: The command line
-    pub(crate) fn at(count: u8, place: u64) -> Injection
+    pub(crate) fn of_variant(count: u8, place: u64) -> Injection
         requires { IsProc count }
         ensures { result ≡ injection_at count place }
     {
@@ -70,12 +70,12 @@ impl Injection {
     /// Returns the request of the script line that injects this event.
     ///
     /// Formats: Scripts
-    pub(crate) fn line<A: Allocator + Copy>(self) -> ScriptLine<A>
+    pub(crate) fn injected_request<A: Allocator + Copy>(self) -> ScriptLine<A>
         ensures { result ≡ line_of_injection self }
     {
         match self.injection_kind {
             InjectionKind::Stop => ScriptLine::Stop { node: self.node },
-            InjectionKind::Cut => ScriptLine::Cut(Groups::isolation(self.node)),
+            InjectionKind::Cut => ScriptLine::Cut(Groups::isolating_one(self.node)),
         }
     }
 }

@@ -66,7 +66,7 @@ fn are_prefixes<O: Object>(
 {
     for before in 0..world.fixed().count() {
         let proc = Proc::new(before + 1);
-        let front = has_prefix(alloc, world, proc, order)?;
+        let front = is_node_prefix_of_order(alloc, world, proc, order)?;
         if !front {
             return Ok(false);
         }
@@ -77,7 +77,7 @@ fn are_prefixes<O: Object>(
 /// Returns whether a node's committed calls, duplicates removed, are a prefix of the order.
 ///
 /// Errors: `Memory` if an allocation fails.
-fn has_prefix<O: Object>(
+fn is_node_prefix_of_order<O: Object>(
     alloc: O::Alloc,
     world: &World<O>,
     proc: Proc,
@@ -106,18 +106,18 @@ fn is_prefix<A: Allocator + Copy + Drop>(
     ensures refused { IfErr result (λ fault. fault ≡ Memory) }
 {
     let effects = effects_of(alloc, calls)?;
-    Ok(begins(order, effects.as_slice()))
+    Ok(begins_with_calls(order, effects.as_slice()))
 }
 
 /// Returns whether the order begins with the calls.
-fn begins<A: Allocator + Copy>(order: &[Call<A>], calls: &[Call<A>]) -> bool
+fn begins_with_calls<A: Allocator + Copy>(order: &[Call<A>], calls: &[Call<A>]) -> bool
     ensures { IsTrue result ↔ IsListPrefix calls.now order.now }
 {
     if calls.len() > order.len() {
         return false;
     }
     for (place, call) in calls.iter().enumerate() {
-        if !is_same(call, &order[place]) {
+        if !are_equal_calls(call, &order[place]) {
             return false;
         }
     }
@@ -125,7 +125,7 @@ fn begins<A: Allocator + Copy>(order: &[Call<A>], calls: &[Call<A>]) -> bool
 }
 
 /// Returns whether the two are the same call: the same client, number and operation.
-fn is_same<A: Allocator + Copy>(call: &Call<A>, other: &Call<A>) -> bool
+fn are_equal_calls<A: Allocator + Copy>(call: &Call<A>, other: &Call<A>) -> bool
     ensures { IsTrue result ↔ (call.now ≡ other.now) }
 {
     other.client == call.client

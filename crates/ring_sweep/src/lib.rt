@@ -9,17 +9,17 @@ mod counted_run;
 mod injection;
 mod laws;
 mod legal;
-mod part;
 mod rounds;
 mod script_position;
 mod sweeping;
+mod variant_range;
 mod variant_script;
 
 pub use injection::{Injection, InjectionKind};
 pub use laws::{first_law, variants_law};
 pub use ring_console::{
     Failure, Groups, Script, ScriptLine, ShelfVocabulary, StandardObjects, Vocabulary, frames,
-    is_linearization, report, script, script_check, script_of,
+    is_linearization, report_failure, script, script_check, script_of,
 };
 pub use ring_failure::{BAD_COMMAND_LINE, FAILED};
 pub use sweeping::{

@@ -9,7 +9,7 @@ ghost use Rattle.ring_failure.specs.Shares.{share_begin};
 ghost use Rattle.ring_sweep.specs.Variants.{AreTried, AreTriedIn};
 
 use crate::injection::Injection;
-use crate::part::{VariantRange, try_share};
+use crate::variant_range::{VariantRange, try_share};
 use ring_base::Fault;
 use ring_console::Script;
 use ring_failure::{ProgressMeter, round_end};
@@ -20,7 +20,7 @@ use std::thread::{self, Threads};
 use std::time::Clock;
 
 /// The number of variants for each thread in the first round.
-const FIRST: u64 = 4;
+const FIRST_ROUND_VARIANTS: u64 = 4;
 
 /// Runs the first `variants` variants on `threads` threads, or one if that is 0.
 ///
@@ -48,13 +48,13 @@ pub(crate) fn try_by_threads<O: Object<Alloc = Global> + Send, R: Threads + Cloc
     };
     match progress {
         Some(out) => {
-            let size = u64::from(threads).saturating_mul(FIRST);
+            let size = u64::from(threads).saturating_mul(FIRST_ROUND_VARIANTS);
             let mut meter = ProgressMeter::new(rt, variants, size);
             let illegal = try_rounds::<O, R, P>(rt, alloc, script, all, threads, &mut meter, out);
             meter.clear(out);
             illegal
         }
-        None => try_part::<O, R>(rt, alloc, script, all, threads),
+        None => try_range::<O, R>(rt, alloc, script, all, threads),
     }
 }
 
@@ -77,12 +77,12 @@ fn try_rounds<O: Object<Alloc = Global> + Send, R: Threads + Clock + Sync, P: Wr
     if begin >= last {
         return Ok(None);
     }
-    let end = round_end(begin, meter.size(), last);
+    let end = round_end(begin, meter.next_round_items(), last);
     let round = VariantRange {
         from: begin,
         upto: end,
     };
-    let found = try_part::<O, R>(rt, alloc, script, round, threads)?;
+    let found = try_range::<O, R>(rt, alloc, script, round, threads)?;
     meter.end_round(rt, out, end);
     let rest = VariantRange {
         from: end,
@@ -95,7 +95,7 @@ fn try_rounds<O: Object<Alloc = Global> + Send, R: Threads + Clock + Sync, P: Wr
 /// Runs the variants of a range on several threads.
 ///
 /// Returns the injection of the first one that isn't legal.
-fn try_part<O: Object<Alloc = Global> + Send, R: Threads + Sync>(
+fn try_range<O: Object<Alloc = Global> + Send, R: Threads + Sync>(
     rt: &R,
     alloc: Global,
     script: &Script<Global>,
@@ -108,7 +108,7 @@ fn try_part<O: Object<Alloc = Global> + Send, R: Threads + Sync>(
     ensures refused { IfErr result (λ fault. fault ≡ Memory) }
 {
     let shares = try_shares::<O, R>(rt, alloc, script, part, threads)?;
-    first_in::<O>(script, part, threads, shares)
+    first_illegal_of_shares::<O>(script, part, threads, shares)
 }
 
 /// Runs a range in `shares` shares, each on a thread of its own if one can be started.
@@ -139,7 +139,7 @@ fn try_shares<O: Object<Alloc = Global> + Send, R: Threads + Sync>(
 /// Returns the first illegal variant of all shares, given that of each share.
 ///
 /// Errors: the first error of a share.
-fn first_in<O: Object<Alloc = Global>>(
+fn first_illegal_of_shares<O: Object<Alloc = Global>>(
     script: &Script<Global>,
     part: VariantRange,
     shares: u16,

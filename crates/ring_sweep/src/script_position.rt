@@ -41,27 +41,27 @@ pub(crate) fn position_of<O: Object>(
     ensures refused { IfErr result (λ fault. fault ≡ Memory) }
 {
     match BaseRun::<O>::new(alloc, script.nodes) {
-        Ok(mut ahead) => position_from(&mut ahead, script, before),
+        Ok(mut base_run) => position_from(&mut base_run, script, before),
         Err(fault) => Err(fault),
     }
 }
 
 /// Finds a position as [`position_of`] does, with a base run that must be at the script's opening.
 fn position_from<O: Object>(
-    ahead: &mut BaseRun<O>,
+    base_run: &mut BaseRun<O>,
     script: &Script<O::Alloc>,
     before: u64,
 ) -> Result<ScriptPosition, Fault>
     requires fit { AreFit script.now.lines.items }
-    requires counted_run { (ahead.old.counted_run.run ≡ run_opening script.now.nodes) × (ahead.old.counted_run.done ≡ 0) }
-    requires place { (ahead.old.lines ≡ 0) × (ahead.old.turns ≡ 0) }
+    requires counted_run { (base_run.old.counted_run.run ≡ run_opening script.now.nodes) × (base_run.old.counted_run.events_done ≡ 0) }
+    requires place { (base_run.old.lines ≡ 0) × (base_run.old.turns ≡ 0) }
     ensures ok { IfOk result (IsScriptPosition O.sequential script.now.nodes script.now.lines.items before) }
     ensures refused { IfErr result (λ fault. fault ≡ Memory) }
 {
-    ahead.go_to(script, before)?;
+    base_run.go_to(script, before)?;
     Ok(ScriptPosition {
-        lines: ahead.lines,
-        turns: ahead.turns,
-        events: ahead.counted_run.done(),
+        lines: base_run.lines,
+        turns: base_run.turns,
+        events: base_run.counted_run.done(),
     })
 }

@@ -19,10 +19,10 @@ ghost use Rattle.ring_sweep.specs.Variants.{HasEvents, AreTried};
 
 use crate::counted_run::CountedRun;
 use crate::injection::{Injection, InjectionText};
-use crate::part::{VariantRange, try_share};
 use crate::rounds::try_by_threads;
+use crate::variant_range::{VariantRange, try_share};
 use ring_base::Fault;
-use ring_console::{Failure, Script, ShelfVocabulary, StandardObjects, Vocabulary, report};
+use ring_console::{Failure, Script, ShelfVocabulary, StandardObjects, Vocabulary, report_failure};
 use ring_failure::{NOT_LEGAL, output_result};
 use ring_object::Object;
 use std::alloc::{Allocator, Global};
@@ -111,7 +111,7 @@ pub fn sweep_of<T: Object, V: Vocabulary, R: Read, O: Write, E: Write>(
 {
     match Script::read_by::<V, R>(alloc, input) {
         Ok(script) => sweep_script::<T, O, E>(alloc, &script, out, err),
-        Err(fault) => report(err, Failure::from(fault)),
+        Err(fault) => report_failure(err, Failure::from(fault)),
     }
 }
 
@@ -203,7 +203,7 @@ pub fn sweep_of_by_threads<
 {
     let script = match Script::read_by::<V, I>(alloc, input) {
         Ok(script) => script,
-        Err(fault) => return report(err, Failure::from(fault)),
+        Err(fault) => return report_failure(err, Failure::from(fault)),
     };
     let swept = run_all_by_threads::<T, R, P>(rt, alloc, &script, threads, progress);
     let done = print_all::<T, O>(&script, swept, out);
@@ -245,7 +245,7 @@ pub fn verdict_status<E: Write>(err: &mut E, done: Result<SweepResult, Failure>)
 {
     match done {
         Ok(swept) => sweep_result_status(err, &swept),
-        Err(failure) => report(err, failure),
+        Err(failure) => report_failure(err, failure),
     }
 }
 
@@ -292,7 +292,7 @@ fn run_all<O: Object>(alloc: O::Alloc, script: &Script<O::Alloc>) -> Result<Swee
 {
     let events = count_events::<O>(alloc, script)?;
     let variants = count_variants(events, script.nodes.count())?;
-    let illegal = try_alone::<O>(alloc, script, variants)?;
+    let illegal = try_on_this_thread::<O>(alloc, script, variants)?;
     Ok(SweepResult {
         events,
         variants,
@@ -339,7 +339,7 @@ fn count_events<O: Object>(alloc: O::Alloc, script: &Script<O::Alloc>) -> Result
 /// `whole` must be a run at its opening.
 fn count_from<O: Object>(whole: &mut CountedRun<O>, script: &Script<O::Alloc>) -> Result<u64, Fault>
     requires fit { AreFit script.now.lines.items }
-    requires opening { (whole.old.run ≡ run_opening script.now.nodes) × (whole.old.done ≡ 0) }
+    requires opening { (whole.old.run ≡ run_opening script.now.nodes) × (whole.old.events_done ≡ 0) }
     ensures ok { IfOk result (HasEvents O.sequential script.now.nodes script.now.lines.items) }
     ensures refused { IfErr result (λ fault. fault ≡ Memory) }
 {
@@ -362,7 +362,7 @@ fn count_variants(events: u64, count: u8) -> Result<u64, Fault>
 /// Runs the first `variants` variants on this thread.
 ///
 /// Returns the injection of the first one that isn't legal, or `None` if all are.
-fn try_alone<O: Object>(
+fn try_on_this_thread<O: Object>(
     alloc: O::Alloc,
     script: &Script<O::Alloc>,
     variants: u64,

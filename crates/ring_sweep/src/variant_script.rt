@@ -23,7 +23,8 @@ use crate::injection::{Injection, InjectionKind, InjectionText};
 use crate::script_position::{ScriptPosition, position_of};
 use ring_base::Proc;
 use ring_console::{
-    Failure, NumberedLine, Script, ScriptLine, ShelfVocabulary, StandardObjects, Vocabulary, report,
+    Failure, NumberedLine, Script, ScriptLine, ShelfVocabulary, StandardObjects, Vocabulary,
+    report_failure,
 };
 use ring_failure::{BAD_COMMAND_LINE, output_result};
 use ring_object::Object;
@@ -93,7 +94,7 @@ pub fn print_variant_of<T: Object, V: Vocabulary, O: Write, E: Write>(
     let mut rest = text;
     match Script::read_by::<V, _>(alloc, &mut rest) {
         Ok(script) => print_variant_in::<T, O, E>(alloc, text, &script, place, out, err),
-        Err(fault) => report(err, Failure::from(fault)),
+        Err(fault) => report_failure(err, Failure::from(fault)),
     }
 }
 
@@ -116,25 +117,25 @@ fn print_variant_in<T: Object, O: Write, E: Write>(
         (IsVariantText T.sequential script.now.nodes script.now.lines.items text.now (injection_at script.now.nodes.count (place - 1))) }
     ensures kept { result ≡ 1 → (out.new ≡ out.old) ⊎ (err.new ≡ err.old) }
 {
-    let injection = Injection::at(script.nodes.count(), place.saturating_sub(1));
+    let injection = Injection::of_variant(script.nodes.count(), place.saturating_sub(1));
     let script_position = match position_of::<T>(alloc, script, injection.before) {
         Ok(script_position) => script_position,
-        Err(fault) => return report(err, Failure::Refused(fault)),
+        Err(fault) => return report_failure(err, Failure::Refused(fault)),
     };
     if place == 0 || script_position.events < injection.before {
         let _ = writeln!(err, "totem: there is no variant {place}");
         return BAD_COMMAND_LINE;
     }
-    match print_with(text, script, script_position, injection, out) {
+    match print_with_injection(text, script, script_position, injection, out) {
         Ok(()) => 0,
-        Err(failure) => report(err, failure),
+        Err(failure) => report_failure(err, failure),
     }
 }
 
 /// Prints a script's text with an injection at this position.
 ///
 /// Errors: `Output` if writing fails.
-fn print_with<A: Allocator + Copy, O: Write>(
+fn print_with_injection<A: Allocator + Copy, O: Write>(
     text: &[u8],
     script: &Script<A>,
     script_position: ScriptPosition,
@@ -166,10 +167,10 @@ fn print_with_line<A: Allocator + Copy, O: Write>(
     text: &[u8],
     next: &NumberedLine<A>,
     taken: u32,
-    put_in: &InjectedLines,
+    added_lines: &InjectedLines,
     out: &mut O,
 ) -> Result<(), Failure>
-    ensures printed { let u = put_in.now in OnOk result (Appends (O.contents out.old) (O.contents out.new)
+    ensures printed { let u = added_lines.now in OnOk result (Appends (O.contents out.old) (O.contents out.new)
         (first_lines (next.now.number - 1) text.now ++ with_injected (split_turns next.now.line taken) taken
         (injected_lines u.count u.events u.injection) (lines_after (next.now.number - 1) text.now))) }
     ensures failed { IfErr result (λ failure. failure ≡ Output) }
@@ -178,8 +179,8 @@ fn print_with_line<A: Allocator + Copy, O: Write>(
     let behind = &text[begin..];
     print_bytes(&text[..begin], out)?;
     match split_turns(&next.line, taken) {
-        Some(turns) => print_split_pump(behind, turns, taken, put_in, out),
-        None => print_before(behind, put_in, out),
+        Some(turns) => print_split_pump(behind, turns, taken, added_lines, out),
+        None => print_before(behind, added_lines, out),
     }
 }
 
@@ -223,13 +224,17 @@ fn split_turns<A: Allocator + Copy>(line: &ScriptLine<A>, taken: u32) -> Option<
 /// Prints a text, and the injected lines after it.
 ///
 /// Errors: `Output` if writing fails.
-fn print_with_end<O: Write>(text: &[u8], put_in: &InjectedLines, out: &mut O) -> Result<(), Failure>
-    ensures printed { let u = put_in.now in OnOk result (Appends (O.contents out.old) (O.contents out.new)
+fn print_with_end<O: Write>(
+    text: &[u8],
+    added_lines: &InjectedLines,
+    out: &mut O,
+) -> Result<(), Failure>
+    ensures printed { let u = added_lines.now in OnOk result (Appends (O.contents out.old) (O.contents out.new)
         (ended_text text.now ++ injected_lines u.count u.events u.injection)) }
     ensures failed { IfErr result (λ failure. failure ≡ Output) }
 {
     print_text(text, out)?;
-    print_injected(put_in, out)
+    print_injected(added_lines, out)
 }
 
 /// Prints a text that begins with a pump's line, with the injected lines put into that pump.
@@ -241,15 +246,15 @@ fn print_split_pump<O: Write>(
     text: &[u8],
     turns: u32,
     taken: u32,
-    put_in: &InjectedLines,
+    added_lines: &InjectedLines,
     out: &mut O,
 ) -> Result<(), Failure>
-    ensures printed { let u = put_in.now in OnOk result (Appends (O.contents out.old) (O.contents out.new)
+    ensures printed { let u = added_lines.now in OnOk result (Appends (O.contents out.old) (O.contents out.new)
         (with_injected (Some turns) taken (injected_lines u.count u.events u.injection) text.now)) }
     ensures failed { IfErr result (λ failure. failure ≡ Output) }
 {
     print_pump(taken, out)?;
-    print_injected(put_in, out)?;
+    print_injected(added_lines, out)?;
     print_pump(turns.saturating_sub(taken), out)?;
     print_text(&text[line_begin(text, 2)..], out)
 }
@@ -257,12 +262,16 @@ fn print_split_pump<O: Write>(
 /// Prints the injected lines before a text.
 ///
 /// Errors: `Output` if writing fails.
-fn print_before<O: Write>(text: &[u8], put_in: &InjectedLines, out: &mut O) -> Result<(), Failure>
-    ensures printed { let u = put_in.now in OnOk result (Appends (O.contents out.old) (O.contents out.new)
+fn print_before<O: Write>(
+    text: &[u8],
+    added_lines: &InjectedLines,
+    out: &mut O,
+) -> Result<(), Failure>
+    ensures printed { let u = added_lines.now in OnOk result (Appends (O.contents out.old) (O.contents out.new)
         (injected_lines u.count u.events u.injection ++ ended_text text.now)) }
     ensures failed { IfErr result (λ failure. failure ≡ Output) }
 {
-    print_injected(put_in, out)?;
+    print_injected(added_lines, out)?;
     print_text(text, out)
 }
 
@@ -347,12 +356,12 @@ impl InjectedLines {
 /// Prints the injected lines.
 ///
 /// Errors: `Output` if writing fails.
-fn print_injected<O: Write>(put_in: &InjectedLines, out: &mut O) -> Result<(), Failure>
-    ensures printed { let u = put_in.now in OnOk result (Appends (O.contents out.old) (O.contents out.new) (injected_lines u.count u.events u.injection)) }
+fn print_injected<O: Write>(added_lines: &InjectedLines, out: &mut O) -> Result<(), Failure>
+    ensures printed { let u = added_lines.now in OnOk result (Appends (O.contents out.old) (O.contents out.new) (injected_lines u.count u.events u.injection)) }
     ensures failed { IfErr result (λ failure. failure ≡ Output) }
 {
-    print_comment(&put_in.injection, put_in.events, out)?;
-    print_injection(put_in, out)
+    print_comment(&added_lines.injection, added_lines.events, out)?;
+    print_injection(added_lines, out)
 }
 
 /// Prints the comment that names the injection.
@@ -369,16 +378,16 @@ fn print_comment<O: Write>(injection: &Injection, events: u64, out: &mut O) -> R
 /// Prints the line of the injection, if it has one.
 ///
 /// Errors: `Output` if writing fails.
-fn print_injection<O: Write>(put_in: &InjectedLines, out: &mut O) -> Result<(), Failure>
-    ensures printed { let u = put_in.now in OnOk result (Appends (O.contents out.old) (O.contents out.new)
+fn print_injection<O: Write>(added_lines: &InjectedLines, out: &mut O) -> Result<(), Failure>
+    ensures printed { let u = added_lines.now in OnOk result (Appends (O.contents out.old) (O.contents out.new)
         (injection_line u.injection.injection_kind u.injection.node u.count)) }
     ensures failed { IfErr result (λ failure. failure ≡ Output) }
 {
-    let node = put_in.injection.node;
-    match put_in.injection.injection_kind {
+    let node = added_lines.injection.node;
+    match added_lines.injection.injection_kind {
         InjectionKind::Stop => print_stop(node, out),
-        InjectionKind::Cut if put_in.count < 2 => Ok(()),
-        InjectionKind::Cut => print_cut(node, put_in.count, out),
+        InjectionKind::Cut if added_lines.count < 2 => Ok(()),
+        InjectionKind::Cut => print_cut(node, added_lines.count, out),
     }
 }
 

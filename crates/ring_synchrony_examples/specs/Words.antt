@@ -4,8 +4,8 @@ use Rattle.std.specs.declared.alloc.Global.{Global}
 use Rattle.ring_base.specs.Numbers.{numbers_from}
 use Rattle.ring_base.specs.declared.ring_id.RingId.{RingId}
 use Rattle.ring_payload.specs.declared.call.Call.{Call}
-use Rattle.ring_payload.specs.declared.content.Content.{Content}
-use Rattle.ring_payload.specs.declared.content.Content.TheVariants.{Call as CallContent, Head as HeadContent, Pack as PackContent}
+use Rattle.ring_payload.specs.declared.content.WrappedPayload.{WrappedPayload}
+use Rattle.ring_payload.specs.declared.content.WrappedPayload.TheVariants.{Call as CallContent, Head as HeadContent, Pack as PackContent}
 use Rattle.ring_payload.specs.declared.content.Payload.{Payload}
 use Rattle.ring_payload.specs.declared.content.Payload.TheVariants.{Call as CallPayload, Wrapped, Head as HeadPayload}
 use Rattle.ring_payload.specs.declared.content.Payload.TheVariants.{Part as PartPayload}
@@ -28,7 +28,7 @@ abbrev pub call : ℕ → ℕ → Payload Global
 call client number = CallPayload (call_of client number)
 
 -- Such a call as the content of a Wrapped.
-abbrev pub call_content : ℕ → ℕ → Content Global
+abbrev pub call_content : ℕ → ℕ → WrappedPayload Global
 call_content client number = CallContent (call_of client number)
 
 -- A call of 900 bytes as a payload.
@@ -36,7 +36,7 @@ abbrev pub long_call : ℕ → ℕ → Payload Global
 long_call client number = CallPayload (long_call_of client number)
 
 -- A Pack of calls as the content of a Wrapped.
-abbrev pub pack_content : List (Call Global) → Content Global
+abbrev pub pack_content : List (Call Global) → WrappedPayload Global
 pack_content calls = PackContent (record { calls = calls })
 
 -- The Head of an empty log.
@@ -52,7 +52,7 @@ abbrev pub head : Payload Global
 head = HeadPayload empty_head
 
 -- The Head of an empty log as the content of a Wrapped.
-abbrev pub head_content : Content Global
+abbrev pub head_content : WrappedPayload Global
 head_content = HeadContent empty_head
 
 -- The Head of a log that was in a primary ring, as a payload.
@@ -60,7 +60,7 @@ abbrev pub head_after : RingId → ℕ → ℕ → Payload Global
 head_after last length committed = HeadPayload (head_of last length committed)
 
 -- The Head of a log that was in a primary ring, as the content of a Wrapped.
-abbrev pub head_content_after : RingId → ℕ → ℕ → Content Global
+abbrev pub head_content_after : RingId → ℕ → ℕ → WrappedPayload Global
 head_content_after last length committed = HeadContent (head_of last length committed)
 
 -- A Part: the places of a log from `first` on.
@@ -68,7 +68,7 @@ abbrev pub part : ℕ → List (Call Global) → Payload Global
 part first calls = PartPayload (record { first = first; calls = calls })
 
 -- A Wrapped of an old ring's message.
-abbrev pub wrapped : RingId → ℕ → ℕ → Content Global → Payload Global
+abbrev pub wrapped : RingId → ℕ → ℕ → WrappedPayload Global → Payload Global
 wrapped ring number sender content = Wrapped (record { ring = ring; number = number; sender = sender; payload = content })
 
 -- A token.

@@ -6,6 +6,6 @@
 //! Formats: two tokens; runs of a queue
 #![tactic(auto)]
 
-pub mod lives;
 pub mod schedules;
+pub mod synchrony_of_schedules;
 pub mod worked_runs;

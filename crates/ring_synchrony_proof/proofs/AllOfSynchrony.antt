@@ -11,22 +11,22 @@ use Rattle.ring_base.specs.Elements.{elements_members}
 use Rattle.ring_base.specs.Rings.{same_ring}
 use Rattle.ring_base.specs.declared.ring_id.RingId.{RingId}
 use Rattle.ring_base.proofs.Each.{each-weaker, each-append, each-filter, each-filter_map}
-use Rattle.ring_payload.specs.Kinds.{is_user}
+use Rattle.ring_payload.specs.PayloadKinds.{is_user}
 use Rattle.ring_wire.specs.declared.message.Message.{Message}
 use Rattle.ring_core_spec.specs.Windows.{found, holds, of_ring}
 use Rattle.ring_core_spec.proofs.Windows.{front_is, holds-found}
 use Rattle.ring_base.proofs.SameRing.{ring_same, same-self}
 use Rattle.ring_core_spec.specs.Commits.{Configuration}
-use Rattle.ring_core_spec.specs.Recoveries.{Plan, safe, gap, transitional_part, past_gap_part, rests}
+use Rattle.ring_core_spec.specs.Recoveries.{Plan, safe, gap, transitional_part, past_gap_part, rest_messages}
 use Rattle.ring_core_spec.specs.State.{Core}
 use Rattle.ring_core_spec.specs.Views.{front, mark}
-use Rattle.ring_core_spec.specs.Giving.{users}
+use Rattle.ring_core_spec.specs.Giving.{user_messages_between}
 use Rattle.ring_core_proof.specs.FactWords.{IsIn}
-use Rattle.ring_core_proof.specs.LawWords.{IsFalling}
+use Rattle.ring_core_proof.specs.LawConditions.{IsFalling}
 use Rattle.ring_core_proof.specs.declared.event.RingEvent.{RingEvent}
 use Rattle.ring_core_proof.specs.Worlds.{World, run, unformed}
 use Rattle.ring_core_proof.specs.Texts.{held_by, text_of}
-use Rattle.ring_core_proof.specs.EpochHistories.{Stage, InRegular, InTransitional, delivered_in}
+use Rattle.ring_core_proof.specs.Lives.{Stage, InRegular, InTransitional, delivered_in}
 use Rattle.ring_core_proof.proofs.InLists.{in-each, each-in, in-left, in-right, in-filter, in-filtered, in-contains, in-numbers}
 use Rattle.ring_core_proof.proofs.WithinWindow.{mark_below}
 use Rattle.ring_core_proof.proofs.Rises.{all_below}
@@ -75,7 +75,7 @@ way_in c next (o ∷ older) old new members rest (inr (inr i)) = way_in c o olde
 
 module _ {A : Type 0} (c : Core A) where
   abbrev told : Configuration → List (Message A)
-  told at = users c at.ring 0 (front c at.ring)
+  told at = user_messages_between c at.ring 0 (front c at.ring)
 
   not_at : (ring : RingId) (at : Configuration) → (at.ring ≡ ring → ⊥) → agreed_at ring (regular_stage c at) ≡ []
   not_at ring at f = cond_both (same_ring at.ring ring) (told at) [] (λ (xs : List (Message A)). xs ≡ [])
@@ -153,7 +153,7 @@ module _ {A : Type 0} (w : World A) (r : Recovered w.cores w.frames) (i : ℕ) w
   all_ascend next (old ∷ older) f h =
       let before = all_ascend old older f.1 h.1 in
       let p = plan_into c next old in
-      let rest = rests p c.held in
+      let rest = rest_messages p c.held in
       let above : Each (λ (x : Message A). (x.ring ≡ old.ring) × (safe p < x.number)) rest = rest_above p c.held in
       let marked : mark c old.ring ≡ safe p = ((h.0).plan).marked in
       let xs = deliveries_of (stages_tale c old older) in
@@ -231,7 +231,7 @@ map_has f x (z ∷ xs) (inl e) = inl (ap f e)
 map_has f x (z ∷ xs) (inr h) = inr (map_has f x xs h)
 
 -- the messages of the rest are held, and of its ring
-rests_held : {A : Type 0} → (p : Plan) (held : List (Message A)) → Each (λ (x : Message A). IsIn x held × (x.ring ≡ p.old)) (rests p held)
+rests_held : {A : Type 0} → (p : Plan) (held : List (Message A)) → Each (λ (x : Message A). IsIn x held × (x.ring ≡ p.old)) (rest_messages p held)
 rests_held {A} p held =
     let ns = transitional_part p ++ past_gap_part p held in
     each-filter (λ (x : Message A). IsIn x held × (x.ring ≡ p.old)) (λ (x : Message A). is_user x.payload) (filter_map (found held p.old) ns)
@@ -267,7 +267,7 @@ module _ {A : Type 0} (n : ℕ) (events : List (RingEvent A)) (heard_in : Holder
       (in-contains (text_of w ring) y.0 g.there) (f.number_is ∙ sym g.number_is) in
       x.1 ∙ ap Some same ∙ sym y.1
 
-  told_is : (i : ℕ) → IsNode w i → (ring : RingId) → users (w.cores i) ring 0 (front (w.cores i) ring) ≡ users_upto
+  told_is : (i : ℕ) → IsNode w i → (ring : RingId) → user_messages_between (w.cores i) ring 0 (front (w.cores i) ring) ≡ users_upto
       (text_of w ring) ring (front (w.cores i) ring)
   told_is i k ring =
       let c = w.cores i in
@@ -324,10 +324,10 @@ module _ {A : Type 0} (n : ℕ) (events : List (RingEvent A)) (heard_in : Holder
       (subst (λ (xs : List (Stage A)). IsIn (InTransitional old new members rest) xs) (stages_are n events i) s) in
       let p = plan_into c way.next way.left in
       let e = way.is in
-      let there : rest ≡ rests p c.held = cc in
+      let there : rest ≡ rest_messages p c.held = cc in
       let ring : old ≡ (way.left).ring = cc in
-      let here : IsIn x (rests p c.held) = subst (λ (xs : List (Message A)). IsIn x xs) there j in
-      let held = in-each (λ (x : Message A). IsIn x c.held × (x.ring ≡ p.old)) x (rests p c.held) (rests_held p c.held) here in (
+      let here : IsIn x (rest_messages p c.held) = subst (λ (xs : List (Message A)). IsIn x xs) there j in
+      let held = in-each (λ (x : Message A). IsIn x c.held × (x.ring ≡ p.old)) x (rest_messages p c.held) (rests_held p c.held) here in (
         subst (λ r. IsIn x (text_of w r)) (held.1 ∙ sym ring) (in_text i k x held.0),
         (in-filtered (λ (x : Message A). is_user x.payload) x
             (filter_map (found c.held p.old) (transitional_part p ++ past_gap_part p c.held)) here).1,

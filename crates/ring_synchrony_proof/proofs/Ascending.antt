@@ -6,10 +6,10 @@ use Rattle.std.proofs.lemmas.Bool.{cond_both, ltb-true}
 use Rattle.ring_base.specs.Numbers.{window_size, numbers_from}
 use Rattle.ring_base.specs.declared.ring_id.RingId.{RingId}
 use Rattle.ring_base.proofs.Each.{each-weaker, each-append, each-filter, each-filter_map}
-use Rattle.ring_payload.specs.Kinds.{is_user}
+use Rattle.ring_payload.specs.PayloadKinds.{is_user}
 use Rattle.ring_wire.specs.declared.message.Message.{Message}
 use Rattle.ring_core_spec.specs.Windows.{found}
-use Rattle.ring_core_spec.specs.Recoveries.{Plan, safe, is_known, gap, known_above_safe, is_from_transitional_member, transitional_part, past_gap_part, rests}
+use Rattle.ring_core_spec.specs.Recoveries.{Plan, safe, is_known, gap, known_above_safe, is_from_transitional_member, transitional_part, past_gap_part, rest_messages}
 use Rattle.ring_core_proof.proofs.InLists.{each-in, numbers-above, in-filtered}
 use Rattle.ring_synchrony_proof.specs.Synchrony.{IsBefore, Ascend}
 use Rattle.ring_synchrony_proof.proofs.LifeAfterStep.{heard}
@@ -62,7 +62,7 @@ heard_ascends {A} held ring first count =
 
 -- The rest
 
-pub rest_ascends : {A : Type 0} → (p : Plan) (held : List (Message A)) → Ascend (rests p held)
+pub rest_ascends : {A : Type 0} → (p : Plan) (held : List (Message A)) → Ascend (rest_messages p held)
 rest_ascends {A} p held =
     let known = filter_rise (is_known p) (numbers_from (safe p + 1) window_size) (numbers_rise (safe p + 1) window_size) in
     let low = filter_rise (λ n. nat_lt n (gap p)) (known_above_safe p) known in
@@ -77,7 +77,7 @@ rest_ascends {A} p held =
     (found_ascend held p.old (transitional_part p ++ past_gap_part p held) (append_rise (transitional_part p) (past_gap_part p held) low high cross))
 
 -- the rest is above the greatest mark
-pub rest_above : {A : Type 0} → (p : Plan) (held : List (Message A)) → Each (λ (x : Message A). (x.ring ≡ p.old) × (safe p < x.number)) (rests p held)
+pub rest_above : {A : Type 0} → (p : Plan) (held : List (Message A)) → Each (λ (x : Message A). (x.ring ≡ p.old) × (safe p < x.number)) (rest_messages p held)
 rest_above {A} p held =
     let ns = transitional_part p ++ past_gap_part p held in
     let known : Each (λ n. safe p < n) (known_above_safe p) = each-filter (λ n. safe p < n) (is_known p)

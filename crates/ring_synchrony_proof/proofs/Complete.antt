@@ -12,7 +12,7 @@ use Rattle.ring_base.specs.Processors.{elements, at, size}
 use Rattle.ring_base.specs.Rings.{same_ring}
 use Rattle.ring_base.specs.declared.ring_id.RingId.{RingId}
 use Rattle.ring_base.specs.declared.state.State.TheVariants.{Recovery}
-use Rattle.ring_payload.specs.Kinds.{is_user, is_end}
+use Rattle.ring_payload.specs.PayloadKinds.{is_user, is_end}
 use Rattle.ring_payload.specs.declared.content.Payload.{Payload}
 use Rattle.ring_payload.specs.declared.content.Payload.TheVariants.{Call, Wrapped, End, Head, Part, Pack, Snap}
 use Rattle.ring_payload.specs.declared.content.Wrapped.{Wrapped as WrappedMessage}

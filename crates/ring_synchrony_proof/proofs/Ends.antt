@@ -4,7 +4,7 @@ use Rattle.std.specs.List.{AllByRecursion as Each}
 use Rattle.ring_base.specs.declared.ring_id.RingId.{RingId}
 use Rattle.ring_base.specs.declared.state.State.TheVariants.{Gather, Commit, Recovery, Operational, Stopped}
 use Rattle.ring_base.proofs.Each.{each-weaker}
-use Rattle.ring_payload.specs.Kinds.{is_user}
+use Rattle.ring_payload.specs.PayloadKinds.{is_user}
 use Rattle.ring_payload.specs.declared.content.Payload.{Payload}
 use Rattle.ring_wire.specs.declared.frame.Frame.{Frame}
 use Rattle.ring_wire.specs.declared.message.Message.{Message}
@@ -14,7 +14,7 @@ use Rattle.ring_core_spec.specs.Commits.{Configuration}
 use Rattle.ring_core_spec.specs.State.{Core, floor}
 use Rattle.ring_core_spec.specs.Views.{front}
 use Rattle.ring_core_proof.specs.FactWords.{IsIn}
-use Rattle.ring_core_proof.specs.Moves.{Move, Idles, Enters, Learns, Visits, Takes, Installs, moved, MayMove, MayVisit}
+use Rattle.ring_core_proof.specs.Moves.{Move, Idles, Enters, Learns, Visits, Takes, Installs, core_after_move, MayMove, MayVisit}
 use Rattle.ring_chain_proof.proofs.FactsGrow.{moved_grows}
 use Rattle.ring_chain_proof.proofs.OneText.{numbered_in}
 use Rattle.ring_core_proof.specs.CoreInvariants.{RingsFit}
@@ -26,7 +26,7 @@ use Rattle.ring_synchrony_proof.proofs.SendsAfterEnd.{held_under, no_user}
 
 -- Facts that stay
 
-pub installs_stay : {A : Type 0} → (c : Core A) (m : Move A) (x : Configuration) → IsIn x c.installs → IsIn x (moved c m).installs
+pub installs_stay : {A : Type 0} → (c : Core A) (m : Move A) (x : Configuration) → IsIn x c.installs → IsIn x (core_after_move c m).installs
 installs_stay c (Idles state gathering last_sent queue sends) x i = i
 installs_stay c (Enters k) x i = i
 installs_stay c (Learns k) x i = i
@@ -34,7 +34,7 @@ installs_stay c (Visits t fresh requests again queue) x i = i
 installs_stay c (Takes y) x i = i
 installs_stay c Installs x i = inr i
 
-behind_stays : {A : Type 0} → (c : Core A) (m : Move A) (ring : RingId) (n : ℕ) → IsBehindEnds c ring n → IsBehindEnds (moved c m) ring n
+behind_stays : {A : Type 0} → (c : Core A) (m : Move A) (ring : RingId) (n : ℕ) → IsBehindEnds c ring n → IsBehindEnds (core_after_move c m) ring n
 behind_stays c m ring n b =
     record {
       configuration = b.configuration;
@@ -45,7 +45,7 @@ behind_stays c m ring n b =
     }
 
 -- a message that was sent stays in its visit
-pub sent_back : {A : Type 0} → (c : Core A) (m : Move A) (v : TokenVisit A) (x : Message A) → IsIn x (sent_in (moved c m) v) → IsIn x (sent_in c v)
+pub sent_back : {A : Type 0} → (c : Core A) (m : Move A) (v : TokenVisit A) (x : Message A) → IsIn x (sent_in (core_after_move c m) v) → IsIn x (sent_in c v)
 sent_back {A} c m v x i = subst (λ me. IsIn x (numbered v.received.ring me v.received.seq v.fresh)) (moved_grows c m).me i
 
 -- the last installed ring, up to the front and above
@@ -68,7 +68,7 @@ pub record IsBegun {A : Type 0} (c : Core A) : Type 0 where
   pub runs : c.state ≡ Operational → 0 < floor c
   pub turns : Each (λ (v : TokenVisit A). 0 < v.received.ring.seq) c.turns
 
-pub moved_begun : {A : Type 0} → (received : Frame A → Type 0) (c : Core A) (m : Move A) → MayMove received c m → RingsFit c → IsBegun c → IsBegun (moved c m)
+pub moved_begun : {A : Type 0} → (received : Frame A → Type 0) (c : Core A) (m : Move A) → MayMove received c m → RingsFit c → IsBegun c → IsBegun (core_after_move c m)
 moved_begun received c (Idles state gathering last_sent queue sends) h rings b =
     record {
       runs = λ s. elim (h.leaves) [
@@ -120,12 +120,12 @@ visit_users {A} received c t fresh again queue h rings ends begun x i u =
     ]
 
 pub moved_users : {A : Type 0} → (received : Frame A → Type 0) (c : Core A) (m : Move A) → MayMove received c m → RingsFit c → HoldsEnds c → IsBegun c →
-    Each (SendsBehindEnds c) c.turns → Each (SendsBehindEnds (moved c m)) (moved c m).turns
+    Each (SendsBehindEnds c) c.turns → Each (SendsBehindEnds (core_after_move c m)) (core_after_move c m).turns
 moved_users {A} received c m h rings ends begun e =
     go m h
-    (each-weaker (SendsBehindEnds c) (SendsBehindEnds (moved c m)) (λ v s x i u. behind_stays c m v.received.ring x.number (s x (sent_back c m v x i) u)) c.turns e)
+    (each-weaker (SendsBehindEnds c) (SendsBehindEnds (core_after_move c m)) (λ v s x i u. behind_stays c m v.received.ring x.number (s x (sent_back c m v x i) u)) c.turns e)
   where
-    go : (m : Move A) → MayMove received c m → Each (SendsBehindEnds (moved c m)) c.turns → Each (SendsBehindEnds (moved c m)) (moved c m).turns
+    go : (m : Move A) → MayMove received c m → Each (SendsBehindEnds (core_after_move c m)) c.turns → Each (SendsBehindEnds (core_after_move c m)) (core_after_move c m).turns
     go (Idles state gathering last_sent queue sends) h k = k
     go (Enters q) h k = k
     go (Learns q) h k = k
@@ -138,11 +138,11 @@ moved_users {A} received c m h rings ends begun e =
 
 pub moved_reports : {A : Type 0} → (received : Frame A → Type 0) (c : Core A) (m : Move A) → MayMove received c m → RingsFit c → HoldsEnds c →
     Each (ReportsBehindEnds c) c.reports →
-    Each (ReportsBehindEnds (moved c m)) (moved c m).reports
+    Each (ReportsBehindEnds (core_after_move c m)) (core_after_move c m).reports
 moved_reports {A} received c m h rings ends e =
-    go m h (each-weaker (ReportsBehindEnds c) (ReportsBehindEnds (moved c m)) (λ x s l. behind_stays c m x.entry.old x.entry.front (s l)) c.reports e)
+    go m h (each-weaker (ReportsBehindEnds c) (ReportsBehindEnds (core_after_move c m)) (λ x s l. behind_stays c m x.entry.old x.entry.front (s l)) c.reports e)
   where
-    go : (m : Move A) → MayMove received c m → Each (ReportsBehindEnds (moved c m)) c.reports → Each (ReportsBehindEnds (moved c m)) (moved c m).reports
+    go : (m : Move A) → MayMove received c m → Each (ReportsBehindEnds (core_after_move c m)) c.reports → Each (ReportsBehindEnds (core_after_move c m)) (core_after_move c m).reports
     go (Idles state gathering last_sent queue sends) h k = k
     go (Enters q) h k =
         (λ l. behind_stays c (Enters q) c.installed.ring (front c c.installed.ring) (last_ends c rings ends l (front c c.installed.ring) (omega arith)), k)

@@ -12,10 +12,10 @@ use Rattle.ring_payload.specs.declared.calls.Pack.{Pack as OnePack}
 use Rattle.ring_payload.specs.declared.calls.Part.{Part as OnePart}
 use Rattle.ring_payload.specs.declared.head.Head.{Head as OneHead}
 use Rattle.ring_payload.specs.declared.snap.Snap.{Snap as OneSnap}
-use Rattle.ring_payload.specs.declared.content.Content.{Content}
-use Rattle.ring_payload.specs.declared.content.Content.TheVariants.{Call as CallContent, Head as HeadContent}
-use Rattle.ring_payload.specs.declared.content.Content.TheVariants.{Part as PartContent, Pack as PackContent}
-use Rattle.ring_payload.specs.declared.content.Content.TheVariants.{Snap as SnapContent}
+use Rattle.ring_payload.specs.declared.content.WrappedPayload.{WrappedPayload}
+use Rattle.ring_payload.specs.declared.content.WrappedPayload.TheVariants.{Call as CallContent, Head as HeadContent}
+use Rattle.ring_payload.specs.declared.content.WrappedPayload.TheVariants.{Part as PartContent, Pack as PackContent}
+use Rattle.ring_payload.specs.declared.content.WrappedPayload.TheVariants.{Snap as SnapContent}
 use Rattle.ring_payload.specs.declared.content.Payload.{Payload}
 use Rattle.ring_payload.specs.declared.content.Payload.TheVariants.{Call, Wrapped, End, Head, Part, Pack, Snap}
 use Rattle.ring_payload.specs.declared.content.Wrapped.{Wrapped as WrappedMessage}
@@ -90,7 +90,7 @@ snap_decides a b =
     (λ p i. record { at = p.0 i; total = p.1.0 i; offset = p.1.1.0 i; bytes = p.1.1.1 i })
     (λ e. (ap (λ (h : OneSnap _). h.at) e, (ap (λ (h : OneSnap _). h.total) e, (ap (λ (h : OneSnap _). h.offset) e, ap (λ (h : OneSnap _). h.bytes) e))))
 
-content_decides : {A : Type 0} → (a b : Content A) → Decides (same_content a b) (a ≡ b)
+content_decides : {A : Type 0} → (a b : WrappedPayload A) → Decides (same_content a b) (a ≡ b)
 content_decides (CallContent a) (CallContent b) = through CallContent (is_same b a) a b (call_decides a b) (λ e. cc)
 content_decides (HeadContent a) (HeadContent b) = through HeadContent (same_head a b) a b (head_decides a b) (λ e. cc)
 content_decides (PartContent a) (PartContent b) = through PartContent (same_part a b) a b (part_decides a b) (λ e. cc)

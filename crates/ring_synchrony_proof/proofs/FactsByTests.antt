@@ -10,7 +10,7 @@ use Rattle.ring_base.specs.Numbers.{numbers_from}
 use Rattle.ring_base.specs.Processors.{has, elements}
 use Rattle.ring_base.specs.Rings.{same_ring}
 use Rattle.ring_base.specs.declared.ring_id.RingId.{RingId}
-use Rattle.ring_payload.specs.Kinds.{is_user}
+use Rattle.ring_payload.specs.PayloadKinds.{is_user}
 use Rattle.ring_wire.specs.declared.message.Message.{Message}
 use Rattle.ring_core_spec.specs.Windows.{found, of_ring, is_numbered, holds, highest, front_of}
 use Rattle.ring_base.proofs.SameRing.{ring_same, same-self}
@@ -20,7 +20,7 @@ use Rattle.ring_core_spec.specs.Views.{front}
 use Rattle.ring_core_proof.specs.FactWords.{IsIn}
 use Rattle.ring_core_proof.specs.Worlds.{World, is_node}
 use Rattle.ring_core_proof.specs.Texts.{HasOneText, held_by, text_of}
-use Rattle.ring_core_proof.specs.EpochHistories.{Stage, InRegular, InTransitional, has_ordered_outputs, delivered_in}
+use Rattle.ring_core_proof.specs.Lives.{Stage, InRegular, InTransitional, has_ordered_outputs, delivered_in}
 use Rattle.ring_core_proof.specs.CommitRounds.{all_pairs, is_above}
 use Rattle.ring_core_proof.proofs.InLists.{in-left, in-right, in-parts, find-in, in-filter, in-filtered, contains-in, in-contains, find-some}
 use Rattle.ring_synchrony_proof.specs.Changes.{IsNode, stages_in, agreed_of, deliveries_of, users_upto, regulars_of, members_in}
@@ -28,7 +28,7 @@ use Rattle.ring_synchrony_proof.specs.Changes.{alternate, ends_in_regular, Chang
 use Rattle.ring_synchrony_proof.specs.Synchrony.{IsBefore, Ascend, HasSameText, IsSafelyDelivered, DeliversSafely, DeliversAlike}
 use Rattle.ring_synchrony_proof.specs.Synchrony.{IsShared, GoesOn, HasConfigurations, DeliversOwn, IsVirtuallySynchronous}
 use Rattle.ring_synchrony_proof.specs.Same.{same_message}
-use Rattle.ring_synchrony_proof.specs.Tests.{of_all, has_message, same_configuration, all_held, is_found, has_one_text, with_ring}
+use Rattle.ring_synchrony_proof.specs.Tests.{all_processors, has_message, same_configuration, all_held, is_found, has_one_text, with_ring}
 use Rattle.ring_synchrony_proof.specs.Tests.{rings_held, rings_in, agrees_with_text, agrees_with_texts, rests_in_text, is_before}
 use Rattle.ring_synchrony_proof.specs.Tests.{is_within_front, has_same_text, delivers_of, is_safely_delivered, is_safe_stage}
 use Rattle.ring_synchrony_proof.specs.Tests.{delivers_safely, same_change, are_alike, delivers_alike, is_same_to, is_shared, has_configurations}
@@ -209,7 +209,7 @@ ascend_decides (x ∷ xs) = Decides-and (list_all (is_before x) xs) (all_pairs i
     (each_decides (is_before x) (IsBefore x) (before_decides x) xs) (ascend_decides xs)
 
 all_stages : {A : Type 0} → (p : Stage A → Bool) (P : Stage A → Type 0) → ((s : Stage A) → Decides (p s) (P s)) → (w : World A) →
-    Decides (of_all w (λ i. list_all p (stages_in w i))) ((i : ℕ) → IsNode w i → (s : Stage A) → IsIn s (stages_in w i) → P s)
+    Decides (all_processors w (λ i. list_all p (stages_in w i))) ((i : ℕ) → IsNode w i → (s : Stage A) → IsIn s (stages_in w i) → P s)
 all_stages p P d w = nodes_decide w.total (λ i. list_all p (stages_in w i)) _ (λ i. all_decides p P d (stages_in w i))
 
 pub same_text_decides : {A : Type 0} → (w : World A) → Decides (has_same_text w) (HasSameText w)

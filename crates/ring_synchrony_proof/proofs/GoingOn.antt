@@ -21,7 +21,7 @@ use Rattle.ring_core_proof.specs.FactWords.{IsIn}
 use Rattle.ring_core_proof.specs.CoreInvariants.{IsRingAmong, IsOnTheWay}
 use Rattle.ring_core_proof.specs.declared.event.RingEvent.{RingEvent}
 use Rattle.ring_core_proof.specs.Worlds.{World, run, unformed}
-use Rattle.ring_core_proof.specs.Moves.{Move, Idles, Enters, Learns, Visits, Takes, Installs, moved, MayMove}
+use Rattle.ring_core_proof.specs.Moves.{Move, Idles, Enters, Learns, Visits, Takes, Installs, core_after_move, MayMove}
 use Rattle.ring_core_proof.proofs.InLists.{in-each, each-in, in-contains}
 use Rattle.ring_core_proof.proofs.KeptByMoves.{IsKeptByMoves, everywhere}
 use Rattle.ring_core_proof.proofs.OwnEverywhere.{local_everywhere}
@@ -54,7 +54,7 @@ installed_low c o b i =
     ]
 
 beside_after : {A : Type 0} → (received : Frame A → Type 0) (c : Core A) (m : Move A) → MayMove received c m → IsStraight c →
-    Each (λ (x : Report). AreBeside x.entry.old x.ring (moved c m).installs) (moved c m).reports
+    Each (λ (x : Report). AreBeside x.entry.old x.ring (core_after_move c m).installs) (core_after_move c m).reports
 beside_after received c (Enters k) h s = (λ b i. inl (installed_low c s.ordered b i), s.beside)
 beside_after received c Installs h s =
     each-in (λ (x : Report). AreBeside x.entry.old x.ring (c.running ∷ c.installs)) c.reports

@@ -18,11 +18,11 @@ use Rattle.ring_core_spec.specs.Deciding.{decide}
 use Rattle.ring_core_spec.specs.Giving.{may_install}
 use Rattle.ring_core_spec.specs.Joining.{proposes}
 use Rattle.ring_core_spec.specs.State.{Core, TransitionResult, floor}
-use Rattle.ring_core_spec.specs.Transitions.{may_propose_after, with_proposal_if, done}
+use Rattle.ring_core_spec.specs.Transitions.{may_propose_after, with_proposal_if, transition_and_proposal}
 use Rattle.ring_core_spec.specs.Views.{mark}
 use Rattle.ring_core_proof.specs.CoreInvariants.{RingsFit, FactsFit}
 use Rattle.ring_core_proof.specs.FactWords.{IsIn}
-use Rattle.ring_core_proof.specs.Moves.{Move, Idles, Enters, Learns, Visits, Takes, Installs, moved, did, MayMove}
+use Rattle.ring_core_proof.specs.Moves.{Move, Idles, Enters, Learns, Visits, Takes, Installs, core_after_move, move_result, MayMove}
 use Rattle.ring_core_proof.proofs.Causes.{caused}
 use Rattle.ring_core_proof.proofs.Guards.{guarded}
 use Rattle.ring_core_proof.proofs.InLists.{in-each, contains-in}
@@ -37,26 +37,26 @@ module _ {A : Type 0} (received : Frame A → Type 0) (c : Core A) (proc : IsPro
     (facts : FactsFit c) where
   -- a ring isn't ready as its plan is learned
   learned_not : (k : CommitToken) → MayMove received c (Learns k) →
-      is_ready (moved c (Learns k)).held c.running.ring c.running.members (mark (moved c (Learns k)) c.running.ring) ≡ true → ⊥
+      is_ready (core_after_move c (Learns k)).held c.running.ring c.running.members (mark (core_after_move c (Learns k)) c.running.ring) ≡ true → ⊥
   learned_not k h t =
       let member = in-each (λ (p : Configuration). IsMember p.members c.me) c.running c.rings (rings.member proc)
       (newest_in c.running c.rings rings.runs) in
       let among = (elements_members c.running.members c.me).1 (proc, member) in
       let there : IsIn c.me (elements c.running.members) =
       contains-in (elements c.running.members) among.0 c.me among.1 among.2 in
-      let end = ready_ends (moved c (Learns k)) t c.me there in
+      let end = ready_ends (core_after_move c (Learns k)) t c.me there in
       let below : (end.message).ring.seq < floor c =
       in-each (λ (x : Message A). x.ring.seq < floor c) end.message c.held ((facts.unknown h.state).held) end.held in
       let same : (end.message).ring.seq ≡ floor c = ap (λ (r : RingId). r.seq) end.ring_is in
       omega (arith, below, same)
 
-  moved_marks : (m : Move A) → MayMove received c m → IsStill m → may_install (moved c m) ≡ true →
-      mark (moved c m) c.installed.ring ≡ mark c c.installed.ring
+  moved_marks : (m : Move A) → MayMove received c m → IsStill m → may_install (core_after_move c m) ≡ true →
+      mark (core_after_move c m) c.installed.ring ≡ mark c c.installed.ring
   moved_marks (Idles state gathering last_sent queue sends) h still t = refl
   moved_marks (Enters k) h still t = absurd (false≢true t)
-  moved_marks (Learns k) h still t = absurd (learned_not k h (may_installs (moved c (Learns k)) t).ready)
+  moved_marks (Learns k) h still t = absurd (learned_not k h (may_installs (core_after_move c (Learns k)) t).ready)
   moved_marks (Visits s fresh requests again queue) h still t =
-      let now = may_installs (moved c (Visits s fresh requests again queue)) t in
+      let now = may_installs (core_after_move c (Visits s fresh requests again queue)) t in
       let older : c.installed.ring.seq < floor c = rings.changing (inr now.state) in
       (visited_same c s fresh requests again queue c.installed.ring
       (λ e.
@@ -68,17 +68,17 @@ module _ {A : Type 0} (received : Frame A → Type 0) (c : Core A) (proc : IsPro
 -- A proposal is followed by no installation
 
 then_marks : {A : Type 0} → (b : Bool) (c : Core A) (m : Move A) →
-    (may_install (moved c m) ≡ true → mark (moved c m) c.installed.ring ≡ mark c c.installed.ring) →
-    may_install (with_proposal_if b (did c m)).core ≡ true →
-    mark (with_proposal_if b (did c m)).core c.installed.ring ≡ mark c c.installed.ring
+    (may_install (core_after_move c m) ≡ true → mark (core_after_move c m) c.installed.ring ≡ mark c c.installed.ring) →
+    may_install (with_proposal_if b (move_result c m)).core ≡ true →
+    mark (with_proposal_if b (move_result c m)).core c.installed.ring ≡ mark c c.installed.ring
 then_marks false c m h t = h t
 then_marks true c m h t = absurd (false≢true t)
 
 -- A step
 
 pub install_marks : {A : Type 0} → (c : Core A) (input : Input A) → IsProc c.me → RingsFit c → FactsFit c →
-    may_install (done c (decide c input)).core ≡ true →
-    mark (done c (decide c input)).core c.installed.ring ≡ mark c c.installed.ring
+    may_install (transition_and_proposal c (decide c input)).core ≡ true →
+    mark (transition_and_proposal c (decide c input)).core c.installed.ring ≡ mark c c.installed.ring
 install_marks {A} c input proc rings facts =
     let a = decide c input in
     let m = move_of c a in
@@ -88,4 +88,4 @@ install_marks {A} c input proc rings facts =
     let Keeps : TransitionResult A → Type 0 =
     λ d. may_install d.core ≡ true → mark d.core c.installed.ring ≡ mark c c.installed.ring in
     subst (λ (d : TransitionResult A). Keeps (with_proposal_if (may_propose_after a && proposes d.core) d)) (sym (acted c a))
-    (then_marks (may_propose_after a && proposes (moved c m)) c m (moved_marks received c proc rings facts m may (still_of c a)))
+    (then_marks (may_propose_after a && proposes (core_after_move c m)) c m (moved_marks received c proc rings facts m may (still_of c a)))

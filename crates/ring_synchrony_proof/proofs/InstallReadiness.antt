@@ -21,13 +21,13 @@ use Rattle.ring_core_spec.specs.declared.input.Input.TheVariants.{Frame as Frame
 use Rattle.ring_core_spec.specs.declared.out.Out.{Out}
 use Rattle.ring_core_spec.specs.State.{Core, TransitionResult, floor}
 use Rattle.ring_core_spec.specs.Views.{mark, plan}
-use Rattle.ring_core_spec.specs.Transitions.{old_ring_messages, done, may_propose_after, with_proposal_if}
+use Rattle.ring_core_spec.specs.Transitions.{old_ring_messages, transition_and_proposal, may_propose_after, with_proposal_if}
 use Rattle.ring_core_spec.specs.Deciding.{decide}
-use Rattle.ring_core_spec.specs.Giving.{may_install, installs_in, ready_then_complete, settle, sent, given}
+use Rattle.ring_core_spec.specs.Giving.{may_install, installs_in, ready_then_complete, with_installation_if, sent, agreed_and_safe_of_step}
 use Rattle.ring_core_spec.specs.Joining.{proposes}
 use Rattle.ring_core_spec.specs.Stepping.{ring_step}
 use Rattle.ring_core_proof.specs.FactWords.{IsIn}
-use Rattle.ring_core_proof.specs.Moves.{Move, Idles, Enters, Learns, Visits, Takes, Installs, moved, did, MayMove, MayEnter, MayTake}
+use Rattle.ring_core_proof.specs.Moves.{Move, Idles, Enters, Learns, Visits, Takes, Installs, core_after_move, move_result, MayMove, MayEnter, MayTake}
 use Rattle.ring_core_proof.proofs.Causes.{caused}
 use Rattle.ring_core_proof.proofs.Guards.{guarded}
 use Rattle.ring_core_proof.proofs.InLists.{in-each}
@@ -89,9 +89,9 @@ module _ {A : Type 0} (received : Frame A → Type 0) (c : Core A) (me : 1 ≤ c
 
   -- nothing is held of a ring that the core enters
   entered_not : (k : CommitToken) → MayEnter received c k →
-      is_ready (moved c (Enters k)).held k.ring k.members (mark (moved c (Enters k)) k.ring) ≡ true → ⊥
+      is_ready (core_after_move c (Enters k)).held k.ring k.members (mark (core_after_move c (Enters k)) k.ring) ≡ true → ⊥
   entered_not k h t =
-      let d = moved c (Enters k) in
+      let d = core_after_move c (Enters k) in
       let first = h.first me in
       let some : 0 < size k.members = omega (arith, first) in
       let end = ready_ends d t (at k.members (position_of_hop k)) (member_place k.members (position_of_hop k) (mod-lt k.hop some)) in
@@ -101,20 +101,20 @@ module _ {A : Type 0} (received : Frame A → Type 0) (c : Core A) (me : 1 ≤ c
       let above = h.above in
       omega (arith, low, q, above)
 
-  took_ready : (x : Message A) → MayTake received c x → ReadyOrRecovers (moved c (Takes x))
+  took_ready : (x : Message A) → MayTake received c x → ReadyOrRecovers (core_after_move c (Takes x))
   took_ready x h p i l t =
       elim (ring_or p.ring c.installed.ring) [
         | inl e ↦ inl (is_installed p i (ap (λ (r : RingId). r.seq) e))
         | inr other ↦ elim (h.ring) [
           | inl from ↦ elim (ring_or p.ring c.running.ring) [
             | inl e ↦ running_or p i e from.state
-            | inr away ↦ inl (ready p i l (sym (ready_same p.ring p.members c (moved c (Takes x)) (same_of (λ e. away (sym e ∙ from.ring)) other)) ∙ t))
+            | inr away ↦ inl (ready p i l (sym (ready_same p.ring p.members c (core_after_move c (Takes x)) (same_of (λ e. away (sym e ∙ from.ring)) other)) ∙ t))
           ]
-          | inr late ↦ inl (ready p i l (sym (ready_same p.ring p.members c (moved c (Takes x)) (same_of (λ e. other (sym e ∙ late.ring)) other)) ∙ t))
+          | inr late ↦ inl (ready p i l (sym (ready_same p.ring p.members c (core_after_move c (Takes x)) (same_of (λ e. other (sym e ∙ late.ring)) other)) ∙ t))
         ]
       ]
     where
-      same_of : (x.ring ≡ p.ring → ⊥) → (p.ring ≡ c.installed.ring → ⊥) → IsSameOf p.ring c (moved c (Takes x))
+      same_of : (x.ring ≡ p.ring → ⊥) → (p.ring ≡ c.installed.ring → ⊥) → IsSameOf p.ring c (core_after_move c (Takes x))
       same_of away other =
           let more = old_ring_messages c.state c x in
           let others = gives_other c.state c x p.ring other in
@@ -125,22 +125,22 @@ module _ {A : Type 0} (received : Frame A → Type 0) (c : Core A) (me : 1 ≤ c
             mark_is = refl;
           }
 
-  pub moved_ready : (m : Move A) → MayMove received c m → IsStill m → ReadyOrRecovers (moved c m)
+  pub moved_ready : (m : Move A) → MayMove received c m → IsStill m → ReadyOrRecovers (core_after_move c m)
   moved_ready (Idles state gathering last_sent queue sends) h still p i l t = inl (ready p i l t)
   moved_ready (Enters k) h still p (inl e) l t =
       absurd
-      (entered_not k h (subst (λ (x : Configuration). is_ready (moved c (Enters k)).held x.ring x.members (mark (moved c (Enters k)) x.ring) ≡ true) e t))
+      (entered_not k h (subst (λ (x : Configuration). is_ready (core_after_move c (Enters k)).held x.ring x.members (mark (core_after_move c (Enters k)) x.ring) ≡ true) e t))
   moved_ready (Enters k) h still p (inr i) l t = inl (ready p i l t)
   moved_ready (Learns k) h still p i l t =
       elim (ring_or p.ring c.installed.ring) [
         | inl e ↦ inl (is_installed p i (ap (λ (r : RingId). r.seq) e))
-        | inr other ↦ inl (ready p i l (sym (ready_same p.ring p.members c (moved c (Learns k))
-            (all_same p.ring c (moved c (Learns k)) refl (raises_other {A = A} _ c.turns c.raises p.ring (λ e. other (sym e))))) ∙ t))
+        | inr other ↦ inl (ready p i l (sym (ready_same p.ring p.members c (core_after_move c (Learns k))
+            (all_same p.ring c (core_after_move c (Learns k)) refl (raises_other {A = A} _ c.turns c.raises p.ring (λ e. other (sym e))))) ∙ t))
       ]
   moved_ready (Visits s fresh requests again queue) h still p i l t =
       elim (ring_or p.ring c.running.ring) [
         | inl e ↦ running_or p i e h.state
-        | inr away ↦ inl (ready p i l (sym (ready_same p.ring p.members c (moved c (Visits s fresh requests again queue))
+        | inr away ↦ inl (ready p i l (sym (ready_same p.ring p.members c (core_after_move c (Visits s fresh requests again queue))
             (visited_same c s fresh requests again queue p.ring (λ e. away (sym e ∙ h.ring)))) ∙ t))
       ]
   moved_ready (Takes x) h still p i l t = took_ready x h p i l t
@@ -148,37 +148,37 @@ module _ {A : Type 0} (received : Frame A → Type 0) (c : Core A) (me : 1 ≤ c
 
 -- A step
 
-then_proposed : {A : Type 0} → (c : Core A) (m : Move A) → 1 ≤ (moved c m).me → Rising (moved c m) → Holds (moved c m) → ReadyOrRecovers (moved c m) →
+then_proposed : {A : Type 0} → (c : Core A) (m : Move A) → 1 ≤ (core_after_move c m).me → Rising (core_after_move c m) → Holds (core_after_move c m) → ReadyOrRecovers (core_after_move c m) →
     (b : Bool) →
-    (b ≡ true → proposes (moved c m) ≡ true) → ReadyOrRecovers (with_proposal_if b (did c m)).core
+    (b ≡ true → proposes (core_after_move c m) ≡ true) → ReadyOrRecovers (with_proposal_if b (move_result c m)).core
 then_proposed c m me rises local r false p = r
 then_proposed {A} c m me rises local r true p =
-    let d = moved c m in
+    let d = core_after_move c m in
     let received : Frame A → Type 0 = λ frame. Unit {0} in
     let may = may_propose received d (p refl) in
     moved_ready received d me rises local
     (λ x i l t. elim (r x i l t) [ inl k ↦ k | inr (s, e) ↦ absurd (let q : Gather ≡ Recovery = sym may.state ∙ s in let n : ⊥ = cc in n) ])
     (Enters (proposed_token d)) may tt
 
-done_ready : {A : Type 0} → (c : Core A) (input : Input A) → 1 ≤ c.me → Rising c → Holds c → ReadyIsInstalled c → ReadyOrRecovers (done c (decide c input)).core
+done_ready : {A : Type 0} → (c : Core A) (input : Input A) → 1 ≤ c.me → Rising c → Holds c → ReadyIsInstalled c → ReadyOrRecovers (transition_and_proposal c (decide c input)).core
 done_ready {A} c input me rises local ready =
     let a = decide c input in
     let m = move_of c a in
     let received : Frame A → Type 0 = λ frame. input ≡ FrameInput frame in
     let may : MayMove received c m = may_act c input a (guarded c input) (caused c input) (asked_by c input a refl (caused c input)) in
-    let same : (moved c m).me ≡ c.me = (moved_grows c m).me in
-    let first : ReadyOrRecovers (moved c m) = moved_ready received c me rises local ready m may (still_of c a) in
+    let same : (core_after_move c m).me ≡ c.me = (moved_grows c m).me in
+    let first : ReadyOrRecovers (core_after_move c m) = moved_ready received c me rises local ready m may (still_of c a) in
     subst (λ (d : TransitionResult A). ReadyOrRecovers (with_proposal_if (may_propose_after a && proposes d.core) d).core) (sym (acted c a))
     (then_proposed c m (omega (arith, me, same)) (moved_rises received c m may rises)
-    (moved_holds received c m may local) first (may_propose_after a && proposes (moved c m)) (λ e. (and_parts (may_propose_after a) (proposes (moved c m)) e).1))
+    (moved_holds received c m may local) first (may_propose_after a && proposes (core_after_move c m)) (λ e. (and_parts (may_propose_after a) (proposes (core_after_move c m)) e).1))
 
 may_of : {A : Type 0} → (d : Core A) → d.state ≡ Recovery → is_ready d.held d.running.ring d.running.members (mark d d.running.ring) ≡ true →
     is_complete (plan d) d.held ≡ true →
     may_install d ≡ true
 may_of d s r k = subst (λ t. installs_in t d ≡ true) (sym s) (subst (λ b. ready_then_complete b d ≡ true) (sym r) k)
 
-settled_ready : {A : Type 0} → (b : Bool) (d : Core A) (outs : List (Out A)) → may_install d ≡ b → ReadyOrRecovers d → ReadyIsComplete (settle b d outs).core →
-    ReadyIsInstalled (settle b d outs).core
+settled_ready : {A : Type 0} → (b : Bool) (d : Core A) (outs : List (Out A)) → may_install d ≡ b → ReadyOrRecovers d → ReadyIsComplete (with_installation_if b d outs).core →
+    ReadyIsInstalled (with_installation_if b d outs).core
 settled_ready false d outs e r whole x i l t =
     elim (r x i l t) [
       | inl k ↦ k
@@ -191,5 +191,5 @@ pub step_ready : {A : Type 0} → (c : Core A) (input : Input A) → 1 ≤ c.me 
     ReadyIsInstalled (ring_step c input).core
 unfolding ring_step
 step_ready {A} c input me rises local ready whole =
-    let d = done c (decide c input) in
-    settled_ready (may_install d.core) d.core (sent d.sends ++ given c d.core) refl (done_ready c input me rises local ready) whole
+    let d = transition_and_proposal c (decide c input) in
+    settled_ready (may_install d.core) d.core (sent d.sends ++ agreed_and_safe_of_step c d.core) refl (done_ready c input me rises local ready) whole

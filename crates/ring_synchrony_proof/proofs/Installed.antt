@@ -8,7 +8,7 @@ use Rattle.std.proofs.lemmas.Bool.{cond_both, and_from, or_right, eq-eqb, eqb-tr
 use Rattle.ring_base.specs.Numbers.{numbers_from}
 use Rattle.ring_base.specs.Processors.{elements, has}
 use Rattle.ring_base.specs.declared.ring_id.RingId.{RingId}
-use Rattle.ring_payload.specs.Kinds.{is_user, is_end}
+use Rattle.ring_payload.specs.PayloadKinds.{is_user, is_end}
 use Rattle.ring_wire.specs.declared.frame.Frame.{Frame}
 use Rattle.ring_wire.specs.declared.message.Message.{Message}
 use Rattle.ring_core_spec.specs.Windows.{found}
@@ -21,9 +21,9 @@ use Rattle.ring_core_spec.specs.Views.{front, mark}
 use Rattle.ring_core_spec.specs.declared.input.Input.{Input}
 use Rattle.ring_core_spec.specs.declared.input.Input.TheVariants.{Frame as FrameInput, Timeout as TimeInput, Send as SendInput}
 use Rattle.ring_core_proof.specs.FactWords.{IsIn}
-use Rattle.ring_core_proof.specs.Moves.{Move, moved, sends_of, MayMove, IsReceivedFrame}
-use Rattle.ring_core_proof.specs.Worlds.{World, Transmission, put, transmissions_from, is_node, stepped_if, stopped_if, handed_if, handed}
-use Rattle.ring_core_proof.specs.Worlds.{happens, run, unformed}
+use Rattle.ring_core_proof.specs.Moves.{Move, core_after_move, sends_of, MayMove, IsReceivedFrame}
+use Rattle.ring_core_proof.specs.Worlds.{World, Transmission, with_core, transmissions_from, is_node, stepped_if, stopped_if, handed_if, handed}
+use Rattle.ring_core_proof.specs.Worlds.{world_after_event, run, unformed}
 use Rattle.ring_core_proof.specs.declared.event.RingEvent.{RingEvent}
 use Rattle.ring_core_proof.specs.declared.event.RingEvent.TheVariants.{Send, Deliver, Timeout, Stop}
 use Rattle.ring_core_proof.proofs.Lifting.{IsKeptInWorlds, kept_run, node_low}
@@ -53,11 +53,11 @@ pub record AllOrderly {A : Type 0} (cores : ℕ → Core A) (frames : List (Tran
 
 orderly_moved : {A : Type 0} → (cores : ℕ → Core A) (frames : List (Transmission A)) (i : ℕ) (m : Move A) → 1 ≤ i → MayMove (IsReceivedFrame frames i) (cores i) m →
     AllOrderly cores frames →
-    AllOrderly (put cores i (moved (cores i) m)) (frames ++ transmissions_from i (sends_of (cores i) m))
+    AllOrderly (with_core cores i (core_after_move (cores i) m)) (frames ++ transmissions_from i (sends_of (cores i) m))
 orderly_moved {A} cores frames i m low may a =
     record {
       unwraps = unwrap_moved cores frames i m low may a.unwraps;
-      orderly = put-each (λ q (x : Core A). IsOrderly x) cores i (moved (cores i) m) (λ q n. a.orderly q)
+      orderly = put-each (λ q (x : Core A). IsOrderly x) cores i (core_after_move (cores i) m) (λ q n. a.orderly q)
           (moved_orderly (IsReceivedFrame frames i) (cores i) m may (a.orderly i));
     }
 
@@ -98,7 +98,7 @@ after_handed : {A : Type 0} → (w : World A) (i : ℕ) (o : Option (Transmissio
 after_handed w i None q = inl refl
 after_handed w i (Some f) q = after_if (has f.to i) w i f.frame q
 
-after_event : {A : Type 0} → (w : World A) (e : RingEvent A) (q : ℕ) → IsAfter w q ((happens w e).cores q)
+after_event : {A : Type 0} → (w : World A) (e : RingEvent A) (q : ℕ) → IsAfter w q ((world_after_event w e).cores q)
 after_event w (Send i payload) q = after_stepped (is_node w i) w i (SendInput payload) (node_low w i) q
 after_event w (Deliver i n) q = after_handed w i (frame_at w.frames n) q
 after_event w (Timeout i kind) q = after_stepped (is_node w i) w i (TimeInput kind) (node_low w i) q
@@ -120,9 +120,9 @@ run_ready : {A : Type 0} → (w : World A) (events : List (RingEvent A)) → All
     ReadyIsInstalled ((run w events).cores q)
 run_ready w [] a ready q = ready q
 run_ready w (e ∷ events) a ready q =
-    let next : AllOrderly (happens w e).cores (happens w e).frames = kept_run AllOrderly orderly_kept w (e ∷ []) a in
-    run_ready (happens w e) events next
-    (λ p. event_ready w p ((happens w e).cores p) a (ready p) (complete_all (happens w e).cores (happens w e).frames next p) (after_event w e p)) q
+    let next : AllOrderly (world_after_event w e).cores (world_after_event w e).frames = kept_run AllOrderly orderly_kept w (e ∷ []) a in
+    run_ready (world_after_event w e) events next
+    (λ p. event_ready w p ((world_after_event w e).cores p) a (ready p) (complete_all (world_after_event w e).cores (world_after_event w e).frames next p) (after_event w e p)) q
 
 opening_ready : (A : Type 0) → (n q : ℕ) → ReadyIsInstalled (opening {A = A} n q)
 opening_ready A n q x i l t = i

@@ -26,7 +26,7 @@ use Rattle.ring_core_spec.specs.Views.{front, mark, entries_for}
 use Rattle.ring_core_spec.specs.Transitions.{old_ring_messages}
 use Rattle.ring_core_spec.specs.Deciding.{Transition, Ignore, Enqueue, Repeat, Announce, Invite, GiveUp, EnterGather, Agree, MergeJoin}
 use Rattle.ring_core_spec.specs.Deciding.{EnterGatherAndAgree, EnterGatherAndMergeJoin, Take, Visit, Fill, Learn}
-use Rattle.ring_core_proof.specs.Moves.{Move, Idles, Enters, Learns, Visits, Takes, Installs, moved, turn_with, MayMove}
+use Rattle.ring_core_proof.specs.Moves.{Move, Idles, Enters, Learns, Visits, Takes, Installs, core_after_move, turn_with, MayMove}
 use Rattle.ring_core_proof.proofs.InLists.{each-in}
 use Rattle.ring_core_proof.proofs.StepsAreMoves.{move_of}
 use Rattle.ring_chain_proof.proofs.FactsGrow.{moved_grows}
@@ -153,7 +153,7 @@ all_same {A} ring c d e m =
 -- a visit adds no fact of another ring
 pub visited_same : {A : Type 0} → (c : Core A) (t : Token) (fresh : List (Payload A)) (requests : List ℕ)
     (again : List (Message A)) (queue : List (Payload A)) (r : RingId) →
-    (t.ring ≡ r → ⊥) → IsSameOf r c (moved c (Visits t fresh requests again queue))
+    (t.ring ≡ r → ⊥) → IsSameOf r c (core_after_move c (Visits t fresh requests again queue))
 visited_same {A} c t fresh requests again queue r other =
     let new = reverse (numbered t.ring c.me t.seq fresh) in
     let others : Each (λ (x : Message A). IsOther r x) new =
@@ -166,7 +166,7 @@ visited_same {A} c t fresh requests again queue r other =
       mark_is = turns_other (turn_with c t fresh requests) c.turns c.raises r other;
     }
 
-pub moved_keeps : {A : Type 0} → (received : Frame A → Type 0) (c : Core A) (m : Move A) → MayMove received c m → Ordered c → IsStill m → Keeps c (moved c m)
+pub moved_keeps : {A : Type 0} → (received : Frame A → Type 0) (c : Core A) (m : Move A) → MayMove received c m → Ordered c → IsStill m → Keeps c (core_after_move c m)
 moved_keeps received c (Idles state gathering last_sent queue sends) h o s =
     record {
       installed = refl;

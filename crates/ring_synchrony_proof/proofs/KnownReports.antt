@@ -14,7 +14,7 @@ use Rattle.ring_wire.specs.declared.entries.CommitEntry.{CommitEntry}
 use Rattle.ring_core_spec.specs.Windows.{holds, front_of, held_bits}
 use Rattle.ring_core_spec.proofs.Windows.{held_bit, front_is}
 use Rattle.ring_base.proofs.SameRing.{ring_same, same-self}
-use Rattle.ring_core_spec.specs.Tokens.{TokenVisit, Raise, raised_to, safe_mark, mark_by, forwarded_in}
+use Rattle.ring_core_spec.specs.Tokens.{TokenVisit, MarkRaise, raised_to, safe_mark, mark_from_arus, forwarded_in}
 use Rattle.ring_core_spec.specs.Commits.{same_entry, reports_of, safe_of, is_own}
 use Rattle.ring_core_spec.specs.Recoveries.{Plan, safe, is_reported, is_known}
 use Rattle.ring_core_spec.specs.State.{Core}
@@ -114,14 +114,14 @@ known_reach p reach n h =
     omega (arith, a, b)
 
 -- a raise is the mark where no mark is above it
-pub raised_is : {A : Type 0} → (x : Raise) (turns : List (TokenVisit A)) (raises : List Raise)
+pub raised_is : {A : Type 0} → (x : MarkRaise) (turns : List (TokenVisit A)) (raises : List MarkRaise)
     → safe_mark turns raises x.ring ≤ x.mark → safe_mark turns (x ∷ raises) x.ring ≡ x.mark
 raised_is {A} x turns raises l =
-    let rest = filter (λ (y : Raise). same_ring y.ring x.ring) raises in
+    let rest = filter (λ (y : MarkRaise). same_ring y.ring x.ring) raises in
     let same : same_ring x.ring x.ring ≡ true = same-self x.ring in
     let e : raised_to x.ring (x ∷ raises) ≡ max x.mark (raised_to x.ring raises) =
-    ap (λ (rs : List Raise). greatest (map (λ (y : Raise). y.mark) rs)) (cond-true (same_ring x.ring x.ring) (x ∷ rest) rest same) in
-    let m = mark_by (forwarded_in x.ring turns) in
+    ap (λ (rs : List MarkRaise). greatest (map (λ (y : MarkRaise). y.mark) rs)) (cond-true (same_ring x.ring x.ring) (x ∷ rest) rest same) in
+    let m = mark_from_arus (forwarded_in x.ring turns) in
     let r = raised_to x.ring raises in
     ap (λ n. max m n) e ∙ over m r x.mark l
   where

@@ -14,8 +14,8 @@ use Rattle.ring_core_spec.specs.State.{Core, halted, frame_at}
 use Rattle.ring_core_spec.specs.Stepping.{ring_step}
 use Rattle.ring_core_proof.specs.declared.event.RingEvent.{RingEvent}
 use Rattle.ring_core_proof.specs.declared.event.RingEvent.TheVariants.{Send, Deliver, Timeout, Stop}
-use Rattle.ring_core_proof.specs.Worlds.{Transmission, World, is_node, stepped_if, stopped_if, handed_if, handed, happens, run, unformed}
-use Rattle.ring_core_proof.specs.EpochHistories.{life_opening, output_if_by, outs_of, life_of, has_ordered_outputs}
+use Rattle.ring_core_proof.specs.Worlds.{Transmission, World, is_node, stepped_if, stopped_if, handed_if, handed, world_after_event, run, unformed}
+use Rattle.ring_core_proof.specs.Lives.{life_opening, output_if_by, outs_of, life_of, has_ordered_outputs}
 use Rattle.ring_core_proof.proofs.KeptByMoves.{kept_step, kept_stop}
 use Rattle.ring_synchrony_proof.specs.LifeOfCore.{core_life}
 use Rattle.ring_synchrony_proof.proofs.Ordered.{Ordered, ordering, opening_ordered}
@@ -89,7 +89,7 @@ handed_told : {A : Type 0} → (w : World A) (i : ℕ) (o : Option (Transmission
 handed_told w i None h = h
 handed_told w i (Some f) h = if_told (has f.to i) w i f.frame h
 
-pub event_told : {A : Type 0} → (w : World A) (e : RingEvent A) → AllLivesTold w → AllLivesTold (happens w e)
+pub event_told : {A : Type 0} → (w : World A) (e : RingEvent A) → AllLivesTold w → AllLivesTold (world_after_event w e)
 event_told w (Send i payload) h = stepped_told (is_node w i) w i (SendInput payload) h
 event_told w (Deliver i n) h = handed_told w i (frame_at w.frames n) h
 event_told w (Timeout i kind) h = stepped_told (is_node w i) w i (TimeInput kind) h
@@ -97,7 +97,7 @@ event_told w (Stop i) h = stopped_told (is_node w i) w i h
 
 run_told_lives : {A : Type 0} → (w : World A) (events : List (RingEvent A)) → AllLivesTold w → AllLivesTold (run w events)
 run_told_lives w [] h = h
-run_told_lives w (e ∷ events) h = run_told_lives (happens w e) events (event_told w e h)
+run_told_lives w (e ∷ events) h = run_told_lives (world_after_event w e) events (event_told w e h)
 
 opening_told : {A : Type 0} → (n : ℕ) → AllLivesTold (unformed {A = A} n)
 opening_told {A} n i = record { ordered = opening_ordered A n i; tells = record { after = refl; belong = refl } }

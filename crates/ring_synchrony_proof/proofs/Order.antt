@@ -5,7 +5,7 @@ use Rattle.ring_wire.specs.declared.frame.Frame.{Frame}
 use Rattle.ring_core_spec.specs.State.{Core, opening}
 use Rattle.ring_core_proof.specs.declared.event.RingEvent.{RingEvent}
 use Rattle.ring_core_proof.specs.Worlds.{run, unformed}
-use Rattle.ring_core_proof.specs.Moves.{Move, Idles, Enters, Learns, Visits, Takes, Installs, moved, MayMove, AllAreUsers}
+use Rattle.ring_core_proof.specs.Moves.{Move, Idles, Enters, Learns, Visits, Takes, Installs, core_after_move, MayMove, AllAreUsers}
 use Rattle.ring_core_proof.proofs.Ended.{IsOver, ending, opening_over}
 use Rattle.ring_core_proof.proofs.KeptByMoves.{IsKeptByMoves, everywhere}
 use Rattle.ring_core_proof.proofs.OwnEverywhere.{Holds, moved_holds}
@@ -27,7 +27,7 @@ pub record IsOrderly {A : Type 0} (c : Core A) : Type 0 where
   pub own : KnowsOwn c
   pub order : KeepsOrder c
 
-moved_queue : {A : Type 0} → (received : Frame A → Type 0) (c : Core A) (m : Move A) → MayMove received c m → AllAreUsers c.queue → AllAreUsers (moved c m).queue
+moved_queue : {A : Type 0} → (received : Frame A → Type 0) (c : Core A) (m : Move A) → MayMove received c m → AllAreUsers c.queue → AllAreUsers (core_after_move c m).queue
 moved_queue received c (Idles state gathering last_sent queue sends) h q = h.queued q
 moved_queue received c (Enters k) h q = q
 moved_queue received c (Learns k) h q = q
@@ -35,7 +35,7 @@ moved_queue received c (Visits t fresh requests again queue) h q = h.queued q
 moved_queue received c (Takes x) h q = q
 moved_queue received c Installs h q = q
 
-pub moved_orderly : {A : Type 0} → (received : Frame A → Type 0) (c : Core A) (m : Move A) → MayMove received c m → IsOrderly c → IsOrderly (moved c m)
+pub moved_orderly : {A : Type 0} → (received : Frame A → Type 0) (c : Core A) (m : Move A) → MayMove received c m → IsOrderly c → IsOrderly (core_after_move c m)
 moved_orderly received c m h p =
     let rings = (p.local).rings in
     record {

@@ -6,8 +6,8 @@ use Rattle.ring_base.specs.declared.state.State.TheVariants.{Gather, Commit, Rec
 use Rattle.ring_wire.specs.declared.frame.Frame.{Frame}
 use Rattle.ring_core_spec.specs.Commits.{Configuration}
 use Rattle.ring_core_spec.specs.State.{Core, floor, opening}
-use Rattle.ring_core_proof.specs.LawWords.{IsFalling}
-use Rattle.ring_core_proof.specs.Moves.{Move, Idles, Enters, Learns, Visits, Takes, Installs, moved, MayMove}
+use Rattle.ring_core_proof.specs.LawConditions.{IsFalling}
+use Rattle.ring_core_proof.specs.Moves.{Move, Idles, Enters, Learns, Visits, Takes, Installs, core_after_move, MayMove}
 use Rattle.ring_core_proof.proofs.KeptByMoves.{IsKeptByMoves}
 
 abbrev pub IsWaiting : State → Type 0
@@ -35,7 +35,7 @@ operates_not : (s : State) → s ≡ Operational → IsWaiting s → ⊥
 operates_not s e (inl w) = (let q : Operational ≡ Commit = sym e ∙ w in let n : ⊥ = cc in n)
 operates_not s e (inr w) = (let q : Operational ≡ Recovery = sym e ∙ w in let n : ⊥ = cc in n)
 
-pub moved_ordered : {A : Type 0} → (received : Frame A → Type 0) (c : Core A) (m : Move A) → MayMove received c m → Ordered c → Ordered (moved c m)
+pub moved_ordered : {A : Type 0} → (received : Frame A → Type 0) (c : Core A) (m : Move A) → MayMove received c m → Ordered c → Ordered (core_after_move c m)
 moved_ordered received c (Idles state gathering last_sent queue sends) h o =
     record {
       older = o.older;

@@ -18,7 +18,7 @@ use Rattle.ring_core_spec.specs.State.{Core}
 use Rattle.ring_core_spec.specs.Views.{front, own_entry, entries_for, plan}
 use Rattle.ring_core_spec.specs.Transitions.{old_ring_messages}
 use Rattle.ring_core_proof.specs.FactWords.{IsIn}
-use Rattle.ring_core_proof.specs.Moves.{Move, Idles, Enters, Learns, Visits, Takes, Installs, moved, MayMove, MayLearn}
+use Rattle.ring_core_proof.specs.Moves.{Move, Idles, Enters, Learns, Visits, Takes, Installs, core_after_move, MayMove, MayLearn}
 use Rattle.ring_core_proof.proofs.WithinWindow.{IsCoreInWindow}
 use Rattle.ring_chain_proof.proofs.FactsGrow.{moved_grows}
 use Rattle.ring_core_proof.proofs.OwnMessages.{AreFit}
@@ -47,7 +47,7 @@ KnowsOwn c = c.state ≡ Recovery → HasOwn c
 pub plan_is : {A : Type 0} → (c : Core A) (o : HasOwn c) → plan c ≡ plan_of c.installed.ring o.commit.members o.commit.entries
 plan_is c o = ap (plan_of c.installed.ring c.running.members) o.entries ∙ ap (λ m. plan_of c.installed.ring m o.commit.entries) (sym o.members)
 
-learned_own : {A : Type 0} → (received : Frame A → Type 0) (c : Core A) (k : CommitToken) → MayLearn received c k → IsCoreInWindow c → AreFit c.held → HasOwn (moved c (Learns k))
+learned_own : {A : Type 0} → (received : Frame A → Type 0) (c : Core A) (k : CommitToken) → MayLearn received c k → IsCoreInWindow c → AreFit c.held → HasOwn (core_after_move c (Learns k))
 learned_own {A} received c k h fit are =
     let own = own_entry c in
     let newest : entries_for c.running.ring (k ∷ c.plans) ≡ k.entries =
@@ -69,7 +69,7 @@ learned_own {A} received c k h fit are =
     }
 
 pub moved_own : {A : Type 0} → (received : Frame A → Type 0) (c : Core A) (m : Move A) → MayMove received c m → IsCoreInWindow c → AreFit c.held → KnowsOwn c →
-    KnowsOwn (moved c m)
+    KnowsOwn (core_after_move c m)
 moved_own received c (Learns k) h fit are o s = learned_own received c k h fit are
 moved_own received c (Enters k) h fit are o s = absurd (let q : Commit ≡ Recovery = s in let n : ⊥ = cc in n)
 moved_own received c Installs h fit are o s = absurd (let q : Operational ≡ Recovery = s in let n : ⊥ = cc in n)

@@ -23,7 +23,7 @@ use Rattle.ring_core_spec.specs.State.{Core}
 use Rattle.ring_core_spec.specs.Views.{mark, own_entry, entries_for}
 use Rattle.ring_core_spec.proofs.Recoveries.{safe_low}
 use Rattle.ring_core_proof.specs.FactWords.{IsIn}
-use Rattle.ring_core_proof.specs.Moves.{Learns, moved, MayLearn}
+use Rattle.ring_core_proof.specs.Moves.{Learns, core_after_move, MayLearn}
 use Rattle.ring_core_proof.proofs.WithinWindow.{IsCoreInWindow}
 use Rattle.ring_synchrony_proof.specs.LifeOfCore.{plan_into}
 use Rattle.ring_synchrony_proof.proofs.Keeps.{IsSameOf}
@@ -49,7 +49,7 @@ module _ {A : Type 0} (c : Core A) (received : Frame A → Type 0) (k : CommitTo
   own = own_entry c
 
   abbrev d : Core A
-  d = moved c (Learns k)
+  d = core_after_move c (Learns k)
 
   abbrev p : Plan
   p = plan_of c.installed.ring c.running.members k.entries

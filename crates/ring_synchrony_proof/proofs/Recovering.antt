@@ -13,7 +13,7 @@ use Rattle.ring_base.specs.declared.ring_id.RingId.{RingId}
 use Rattle.ring_base.specs.declared.state.State.{State}
 use Rattle.ring_base.specs.declared.state.State.TheVariants.{Gather, Commit, Recovery, Operational, Stopped}
 use Rattle.ring_base.proofs.Each.{each-weaker, each-append}
-use Rattle.ring_payload.specs.Kinds.{is_user}
+use Rattle.ring_payload.specs.PayloadKinds.{is_user}
 use Rattle.ring_payload.specs.declared.content.Payload.{Payload}
 use Rattle.ring_payload.specs.declared.content.Payload.TheVariants.{Call, Wrapped, End, Head, Part, Pack, Snap}
 use Rattle.ring_payload.specs.declared.content.Wrapped.{Wrapped as WrappedMessage}
@@ -25,18 +25,18 @@ use Rattle.ring_wire.specs.declared.message.Message.{Message}
 use Rattle.ring_wire.specs.declared.token.Token.{Token}
 use Rattle.ring_core_spec.specs.Windows.{is_numbered, holds, is_new}
 use Rattle.ring_base.proofs.SameRing.{ring_same}
-use Rattle.ring_core_spec.specs.Tokens.{TokenVisit, turns_of, VisitBy, numbered}
+use Rattle.ring_core_spec.specs.Tokens.{TokenVisit, visits_in_ring, VisitBy, numbered}
 use Rattle.ring_core_spec.specs.Commits.{position_of_hop, Configuration}
 use Rattle.ring_core_spec.specs.Recoveries.{Plan, plan_of, is_known, inner_messages, inner_message}
-use Rattle.ring_core_spec.specs.State.{Core, Report, floor, opening, alone}
+use Rattle.ring_core_spec.specs.State.{Core, Report, floor, opening, opening_ring}
 use Rattle.ring_core_spec.specs.Views.{mark}
 use Rattle.ring_core_spec.specs.Transitions.{old_ring_messages, message_taken}
 use Rattle.ring_core_spec.specs.Giving.{install}
 use Rattle.ring_core_proof.specs.FactWords.{IsIn, SomeIs}
-use Rattle.ring_core_proof.specs.LawWords.{IsFalling}
-use Rattle.ring_core_proof.specs.Worlds.{Transmission, put, transmissions_from, run, unformed}
+use Rattle.ring_core_proof.specs.LawConditions.{IsFalling}
+use Rattle.ring_core_proof.specs.Worlds.{Transmission, with_core, transmissions_from, run, unformed}
 use Rattle.ring_core_proof.specs.declared.event.RingEvent.{RingEvent}
-use Rattle.ring_core_proof.specs.Moves.{Move, Idles, Enters, Learns, Visits, Takes, Installs, moved, sends_of, MayMove}
+use Rattle.ring_core_proof.specs.Moves.{Move, Idles, Enters, Learns, Visits, Takes, Installs, core_after_move, sends_of, MayMove}
 use Rattle.ring_core_proof.specs.Moves.{MayVisit, MayTake, IsReceivedFrame, AllAreUsers, IsWrapping}
 use Rattle.ring_core_proof.proofs.InLists.{in-each, each-in, in-left, in-right, in-reverse, in-filtered}
 use Rattle.ring_core_proof.proofs.Rises.{Rising, moved_rises, runs_in, alone_rises}
@@ -79,7 +79,7 @@ held_more {A} me more held turns h =
     (λ (x : Message A). IsIn x (more ++ held)) (λ x i. in-right x more held i)
     (numbered v.received.ring me v.received.seq v.fresh) k) turns h
 
-moved_local : {A : Type 0} → (received : Frame A → Type 0) (c : Core A) (m : Move A) → MayMove received c m → 1 ≤ c.me → IsLocal c → IsLocal (moved c m)
+moved_local : {A : Type 0} → (received : Frame A → Type 0) (c : Core A) (m : Move A) → MayMove received c m → 1 ≤ c.me → IsLocal c → IsLocal (core_after_move c m)
 moved_local received c (Idles state gathering last_sent queue sends) h me p =
     record {
       fit = p.fit;
@@ -202,12 +202,12 @@ visit_planned {A} received c t fresh again queue h users rec =
     ]
 
 moved_planned : {A : Type 0} → (received : Frame A → Type 0) (c : Core A) (m : Move A) → MayMove received c m
-    → AllAreUsers c.queue → Recovers c → Planned c → Planned (moved c m)
+    → AllAreUsers c.queue → Recovers c → Planned c → Planned (core_after_move c m)
 moved_planned received c (Idles state gathering last_sent queue sends) h u r p = p
 moved_planned received c (Enters k) h u r p = p
 moved_planned {A} received c (Learns k) h u r p =
     each-weaker _ _ (λ (v : TokenVisit A) e. each-weaker (IsPlannedIn c v.received.ring)
-    (IsPlannedIn (moved c (Learns k)) v.received.ring) (λ q f w g. (let s = f w g in (s.0, inr s.1, s.2, s.3)))
+    (IsPlannedIn (core_after_move c (Learns k)) v.received.ring) (λ q f w g. (let s = f w g in (s.0, inr s.1, s.2, s.3)))
     v.fresh e) c.turns p
 moved_planned received c (Visits t fresh requests again queue) h u r p = (visit_planned received c t fresh again queue h u r, p)
 moved_planned received c (Takes x) h u r p = p
@@ -276,7 +276,7 @@ numbered_by {A} cores frames h x g =
     let s = some_of (λ (v : VisitBy A). IsIn x (numbered x.ring v.who v.turn.received.seq v.turn.fresh)) (h.visits x.ring) g in
     let v = s.0 in
     let f = numbered_in x.ring v.who v.turn.received.seq v.turn.fresh x s.2 in
-    let picked_there : IsIn v.turn (turns_of x.ring (cores v.who).turns) =
+    let picked_there : IsIn v.turn (visits_in_ring x.ring (cores v.who).turns) =
     subst (λ (ts : List (TokenVisit A)). IsIn v.turn ts) (sym (h.chains.turns v.who x.ring))
     (in_picked v (h.visits x.ring) s.1) in
     let own = in-filtered (λ (u : TokenVisit A). same_ring u.received.ring x.ring) v.turn (cores v.who).turns picked_there in
@@ -381,7 +381,7 @@ module _ {A : Type 0} (cores : ℕ → Core A) (frames : List (Transmission A)) 
       in_got (x ∷ xs) e (inr j) = (let t = in_got xs e j in (suc t.0, t.1))
 
   moved_recovers : (m : Move A) → MayMove (IsReceivedFrame frames i) c m
-      → (came_plan : (k : CommitToken) → MayMove (IsReceivedFrame frames i) c (Learns k) → IsPlan cores k) → Recovers (moved c m)
+      → (came_plan : (k : CommitToken) → MayMove (IsReceivedFrame frames i) c (Learns k) → IsPlan cores k) → Recovers (core_after_move c m)
   moved_recovers (Idles state gathering last_sent queue sends) may cp s =
       elim (may.leaves) [
         | inl e ↦ (let p = r.recovers i (sym e ∙ s) in record {
@@ -402,7 +402,7 @@ module _ {A : Type 0} (cores : ℕ → Core A) (frames : List (Transmission A)) 
   moved_recovers (Enters k) may cp s = absurd (let q : Commit ≡ Recovery = s in let n : ⊥ = cc in n)
   moved_recovers (Learns k) may cp s = learned_plan c (IsReceivedFrame frames i) k may ((r.local i).fit) me positive (entry_reach k (cp k may))
   moved_recovers (Visits t fresh requests again queue) may cp s =
-      plan_stays c (moved c (Visits t fresh requests again queue)) c.running c.installed refl (λ k j. j) refl
+      plan_stays c (core_after_move c (Visits t fresh requests again queue)) c.running c.installed refl (λ k j. j) refl
       (visited_same c t fresh requests again queue c.installed.ring (λ e. not_installed s (sym may.ring ∙ e))) (r.recovers i s)
   moved_recovers (Takes x) may cp s = take_plan x may s
   moved_recovers Installs may cp s = absurd (let q : Operational ≡ Recovery = s in let n : ⊥ = cc in n)
@@ -421,16 +421,16 @@ module _ {A : Type 0} (cores : ℕ → Core A) (frames : List (Transmission A)) 
         changes_stay d k e more old older (omega (arith, under)) f.1 x.1,
       )
 
-  still_changed : (m : Move A) → MayMove (IsReceivedFrame frames i) c m → IsStill m → AllChanged (moved c m) (moved c m).installs
+  still_changed : (m : Move A) → MayMove (IsReceivedFrame frames i) c m → IsStill m → AllChanged (core_after_move c m) (core_after_move c m).installs
   still_changed m may still =
       let o = (r.local i).ordered in
       let k = moved_keeps (IsReceivedFrame frames i) c m may o still in
       let g = moved_grows c m in
       let before : HaveChanged c c.installed o.older = subst (AllChanged c) o.newest (r.changed i) in
-      let after : HaveChanged (moved c m) c.installed o.older = changes_stay (moved c m) k g.me g.plans c.installed o.older (omega arith) o.falls before in
-      subst (AllChanged (moved c m)) (sym (k.installs ∙ o.newest)) after
+      let after : HaveChanged (core_after_move c m) c.installed o.older = changes_stay (core_after_move c m) k g.me g.plans c.installed o.older (omega arith) o.falls before in
+      subst (AllChanged (core_after_move c m)) (sym (k.installs ∙ o.newest)) after
 
-  moved_changed : (m : Move A) → MayMove (IsReceivedFrame frames i) c m → AllChanged (moved c m) (moved c m).installs
+  moved_changed : (m : Move A) → MayMove (IsReceivedFrame frames i) c m → AllChanged (core_after_move c m) (core_after_move c m).installs
   moved_changed (Idles state gathering last_sent queue sends) may = still_changed (Idles state gathering last_sent queue sends) may tt
   moved_changed (Enters k) may = still_changed (Enters k) may tt
   moved_changed (Learns k) may = still_changed (Learns k) may tt
@@ -450,9 +450,9 @@ module _ {A : Type 0} (cores : ℕ → Core A) (frames : List (Transmission A)) 
       all_so f next [] x = tt
       all_so f next (old ∷ older) x = (f next old x.0, all_so f old older x.1)
 
-  moved_all : (m : Move A) → MayMove (IsReceivedFrame frames i) c m → Recovered (put cores i (moved c m)) (frames ++ transmissions_from i (sends_of c m))
+  moved_all : (m : Move A) → MayMove (IsReceivedFrame frames i) c m → Recovered (with_core cores i (core_after_move c m)) (frames ++ transmissions_from i (sends_of c m))
   moved_all m may =
-      let d = moved c m in
+      let d = core_after_move c m in
       record {
         all = plans_moved cores frames i m low may r.all;
         local = put-each (λ q (x : Core A). IsLocal x) cores i d (λ q n. r.local q) (moved_local (IsReceivedFrame frames i) c m may me (r.local i));
@@ -475,7 +475,7 @@ opening_local A n me =
     record {
       fit = record { window = tt; visits = tt; raised = tt };
       ordered = opening_ordered A n me;
-      rises = alone_rises (alone me);
+      rises = alone_rises (opening_ring me);
       among = λ x i. i;
       member = λ x i. elim i [ inl e ↦ subst (λ (x : Configuration). has x.members me ≡ true) (sym e) (only_own me) | inr none ↦ absurd none ];
       reports = tt;

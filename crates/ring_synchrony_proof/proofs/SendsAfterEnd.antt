@@ -5,7 +5,7 @@ use Rattle.std.proofs.lemmas.Bool.{and_from, eq-eqb, false≢true}
 use Rattle.ring_base.specs.Rings.{same_ring}
 use Rattle.ring_base.specs.declared.ring_id.RingId.{RingId}
 use Rattle.ring_base.proofs.SameRing.{same-self}
-use Rattle.ring_payload.specs.Kinds.{is_user, is_end}
+use Rattle.ring_payload.specs.PayloadKinds.{is_user, is_end}
 use Rattle.ring_payload.specs.declared.content.Payload.{Payload}
 use Rattle.ring_payload.specs.declared.content.Payload.TheVariants.{Call, Wrapped, End, Head, Part, Pack, Snap}
 use Rattle.ring_wire.specs.declared.frame.Frame.{Frame}
@@ -18,8 +18,8 @@ use Rattle.ring_core_spec.specs.Recoveries.{has_ended, inner_message}
 use Rattle.ring_core_spec.specs.State.{Core}
 use Rattle.ring_core_spec.proofs.Recoveries.{end_no_user}
 use Rattle.ring_core_proof.specs.FactWords.{IsIn}
-use Rattle.ring_core_proof.specs.LawWords.{EndsWrapping, HasEnded}
-use Rattle.ring_core_proof.specs.Moves.{Move, Idles, Enters, Learns, Visits, Takes, Installs, moved, MayMove, MayVisit}
+use Rattle.ring_core_proof.specs.LawConditions.{EndsWrapping, HasEnded}
+use Rattle.ring_core_proof.specs.Moves.{Move, Idles, Enters, Learns, Visits, Takes, Installs, core_after_move, MayMove, MayVisit}
 use Rattle.ring_core_proof.specs.Moves.{MayEnd, AreWraps, AreLast, IsWrapping, AllAreUsers}
 use Rattle.ring_core_proof.proofs.InLists.{in-each, in-parts, in-filter, any-in}
 use Rattle.ring_chain_proof.proofs.OneText.{numbered_in}
@@ -161,7 +161,7 @@ module _ {A : Type 0} (received : Frame A → Type 0) (c : Core A) (t : Token) (
         length_more [] = refl
         length_more (p ∷ ps) = ap suc (length_more ps)
 
-    pub visited_last : (requests : List ℕ) → EndsLast c → EndsLast (moved c (Visits t fresh requests again queue))
+    pub visited_last : (requests : List ℕ) → EndsLast c → EndsLast (core_after_move c (Visits t fresh requests again queue))
     visited_last requests l x y a b ring user ended =
         elim (a.there) [
           | inl ea ↦ (let i : IsIn x news = subst (λ (v : TokenVisit A). IsIn x (numbered v.received.ring c.me v.received.seq v.fresh)) ea a.numbered_there in
@@ -196,10 +196,10 @@ quiet {A} c d me turns l x y a b ring user ended = l x y (back x a) (back y b) r
 
 pub moved_last : {A : Type 0} → (received : Frame A → Type 0) (c : Core A) (m : Move A) → MayMove received c m → AreHeldOf c.me c.held c.turns →
     AllAreUsers c.queue → HasEnded c →
-    EndsLast c → EndsLast (moved c m)
+    EndsLast c → EndsLast (core_after_move c m)
 moved_last received c (Visits t fresh requests again queue) h own queued over l = visited_last received c t fresh again queue h own queued over requests l
-moved_last received c (Idles state gathering last_sent queue sends) h own queued over l = quiet c (moved c (Idles state gathering last_sent queue sends)) refl refl l
-moved_last received c (Enters k) h own queued over l = quiet c (moved c (Enters k)) refl refl l
-moved_last received c (Learns k) h own queued over l = quiet c (moved c (Learns k)) refl refl l
-moved_last received c (Takes x) h own queued over l = quiet c (moved c (Takes x)) refl refl l
-moved_last received c Installs h own queued over l = quiet c (moved c Installs) refl refl l
+moved_last received c (Idles state gathering last_sent queue sends) h own queued over l = quiet c (core_after_move c (Idles state gathering last_sent queue sends)) refl refl l
+moved_last received c (Enters k) h own queued over l = quiet c (core_after_move c (Enters k)) refl refl l
+moved_last received c (Learns k) h own queued over l = quiet c (core_after_move c (Learns k)) refl refl l
+moved_last received c (Takes x) h own queued over l = quiet c (core_after_move c (Takes x)) refl refl l
+moved_last received c Installs h own queued over l = quiet c (core_after_move c Installs) refl refl l

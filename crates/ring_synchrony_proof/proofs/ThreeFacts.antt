@@ -9,13 +9,13 @@ use Rattle.ring_base.specs.Processors.{has, elements}
 use Rattle.ring_base.specs.Elements.{elements_members}
 use Rattle.ring_base.specs.declared.ring_id.RingId.{RingId}
 use Rattle.ring_base.proofs.SameRing.{same-self}
-use Rattle.ring_payload.specs.Kinds.{is_user}
+use Rattle.ring_payload.specs.PayloadKinds.{is_user}
 use Rattle.ring_wire.specs.declared.message.Message.{Message}
 use Rattle.ring_core_spec.specs.Windows.{found, holds}
 use Rattle.ring_core_spec.proofs.Windows.{front_is, holds-found}
 use Rattle.ring_core_spec.specs.Tokens.{TokenVisit, numbered}
 use Rattle.ring_core_spec.specs.Commits.{Configuration}
-use Rattle.ring_core_spec.specs.Recoveries.{Plan, plan_of, safe, gap, SameText, is_complete, rests}
+use Rattle.ring_core_spec.specs.Recoveries.{Plan, plan_of, safe, gap, SameText, is_complete, rest_messages}
 use Rattle.ring_core_spec.proofs.Recoveries.{same_rests}
 use Rattle.ring_core_spec.specs.State.{Core}
 use Rattle.ring_core_spec.specs.Views.{front, mark, entries_for}
@@ -23,7 +23,7 @@ use Rattle.ring_core_proof.specs.FactWords.{IsIn}
 use Rattle.ring_core_proof.specs.declared.event.RingEvent.{RingEvent}
 use Rattle.ring_core_proof.specs.Worlds.{World, run, unformed}
 use Rattle.ring_core_proof.specs.Texts.{text_of}
-use Rattle.ring_core_proof.specs.EpochHistories.{Stage, stages_of, delivered_in}
+use Rattle.ring_core_proof.specs.Lives.{Stage, stages_of, delivered_in}
 use Rattle.ring_core_proof.specs.CommitRounds.{all_pairs, is_above}
 use Rattle.ring_core_proof.proofs.InLists.{in-each, in-left, in-right, in-contains, in-numbers}
 use Rattle.ring_core_proof.proofs.MembersOfRings.{member_in}
@@ -57,7 +57,7 @@ change_of c next old = record {
   old = old;
   regular = delivered_in (regular_stage c old);
   transitional_members = (plan_into c next old).transitional_members;
-  rest = rests (plan_into c next old) c.held;
+  rest = rest_messages (plan_into c next old) c.held;
   new = next;
 }
 
@@ -189,12 +189,12 @@ module _ {A : Type 0} (w : World A) (r : Recovered w.cores w.frames) where
         regular_is i old ∙ ap (filter (λ (x : Message A). is_user x.payload)) one
         ∙ ap (heard (found (w.cores j).held old.ring) 1) marks_same ∙ sym (regular_is j old)
 
-    rests_same : rests (plan_into (w.cores i) next old) (w.cores i).held ≡ rests (plan_into (w.cores j) next old) (w.cores j).held
+    rests_same : rest_messages (plan_into (w.cores i) next old) (w.cores i).held ≡ rest_messages (plan_into (w.cores j) next old) (w.cores j).held
     rests_same =
         let p = plan_into (w.cores i) next old in
         same_rests p (w.cores i).held (w.cores j).held (text_same i j old.ring) a.complete
         (subst (λ (q : Plan). is_complete q (w.cores j).held ≡ true) (sym plans_same) b.complete)
-        ∙ ap (λ (q : Plan). rests q (w.cores j).held) plans_same
+        ∙ ap (λ (q : Plan). rest_messages q (w.cores j).held) plans_same
 
     change_same : change_of (w.cores i) next old ≡ change_of (w.cores j) next old
     change_same = λ k. record { old = old; regular = regulars_same k; transitional_members = (plans_same k).transitional_members; rest = rests_same k; new = next }
@@ -233,7 +233,7 @@ module _ {A : Type 0} (w : World A) (r : Recovered w.cores w.frames) where
   -- a message held at a change is delivered, if it is below the gap or a transitional member sent it
   pub delivered_at : (i : ℕ) (next old : Configuration) → HasChanged (w.cores i) next old → (x : Message A) → IsIn x (w.cores i).held → x.ring ≡ old.ring →
       is_user x.payload ≡ true → (x.number < gap (plan_into (w.cores i) next old)) ⊎ (has (plan_into (w.cores i) next old).transitional_members x.sender ≡ true) →
-      IsIn x (delivered_in (regular_stage (w.cores i) old) ++ rests (plan_into (w.cores i) next old) (w.cores i).held)
+      IsIn x (delivered_in (regular_stage (w.cores i) old) ++ rest_messages (plan_into (w.cores i) next old) (w.cores i).held)
   delivered_at i next old a x there ring u side =
       let c = w.cores i in
       let p = plan_into c next old in
@@ -246,9 +246,9 @@ module _ {A : Type 0} (w : World A) (r : Recovered w.cores w.frames) where
       let known = q.within x.number held in
       let low = positive i x there in
       elim (cases_lt (safe p) x.number) [
-        | inl above ↦ in-right x (delivered_in (regular_stage c old)) (rests p c.held) (in_rest p c.held q.reach q.sound x is u above known side)
+        | inl above ↦ in-right x (delivered_in (regular_stage c old)) (rest_messages p c.held) (in_rest p c.held q.reach q.sound x is u above known side)
         | inr within ↦
-            in-left x (delivered_in (regular_stage c old)) (rests p c.held)
+            in-left x (delivered_in (regular_stage c old)) (rest_messages p c.held)
             (subst (λ (xs : List (Message A)). IsIn x xs) (sym (regular_is i old))
             (in_heard (found c.held old.ring) (numbers_from 1 (mark c old.ring)) x.number x
             (in-numbers 1 (mark c old.ring) x.number low
@@ -257,7 +257,7 @@ module _ {A : Type 0} (w : World A) (r : Recovered w.cores w.frames) where
 
   own_delivered : (i : ℕ) (next old : Configuration) → HasChanged (w.cores i) next old → (x : Message A)
       → IsIn x (w.cores i).held → x.ring ≡ old.ring → x.sender ≡ i →
-      is_user x.payload ≡ true → IsIn x (delivered_in (regular_stage (w.cores i) old) ++ rests (plan_into (w.cores i) next old) (w.cores i).held)
+      is_user x.payload ≡ true → IsIn x (delivered_in (regular_stage (w.cores i) old) ++ rest_messages (plan_into (w.cores i) next old) (w.cores i).held)
   own_delivered i next old a x there ring s u =
       let me : has (plan_into (w.cores i) next old).transitional_members x.sender ≡ true =
       subst (λ k. has (plan_into (w.cores i) next old).transitional_members k ≡ true) ((h.rings).me i ∙ sym s) (a.plan).transitional_member in

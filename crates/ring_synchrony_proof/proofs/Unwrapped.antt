@@ -9,7 +9,7 @@ use Rattle.ring_base.specs.Numbers.{numbers_from}
 use Rattle.ring_base.specs.Processors.{elements}
 use Rattle.ring_base.specs.declared.ring_id.RingId.{RingId}
 use Rattle.ring_base.proofs.Each.{each-filter_map}
-use Rattle.ring_payload.specs.Kinds.{is_end}
+use Rattle.ring_payload.specs.PayloadKinds.{is_end}
 use Rattle.ring_wire.specs.declared.frame.Frame.{Frame}
 use Rattle.ring_wire.specs.declared.message.Message.{Message}
 use Rattle.ring_core_spec.specs.Windows.{found, front_of}
@@ -20,7 +20,7 @@ use Rattle.ring_core_spec.specs.Views.{front, mark}
 use Rattle.ring_core_proof.specs.FactWords.{IsIn}
 use Rattle.ring_core_proof.specs.declared.event.RingEvent.{RingEvent}
 use Rattle.ring_core_proof.specs.Worlds.{run, unformed}
-use Rattle.ring_core_proof.specs.Moves.{Move, Idles, Enters, Learns, Visits, Takes, Installs, moved, MayMove}
+use Rattle.ring_core_proof.specs.Moves.{Move, Idles, Enters, Learns, Visits, Takes, Installs, core_after_move, MayMove}
 use Rattle.ring_core_proof.proofs.InLists.{in-each, each-in, any-some, in-filtered}
 use Rattle.ring_core_proof.proofs.KeptByMoves.{everywhere}
 use Rattle.ring_core_proof.proofs.OwnMessages.{held_stays}
@@ -31,7 +31,7 @@ use Rattle.ring_synchrony_proof.proofs.UserMessages.{found_as}
 
 -- Ends of an installed ring
 
-end_stays : {A : Type 0} → (c : Core A) (m : Move A) (ring : RingId) (i : ℕ) → HoldsEnd c ring i → HoldsEnd (moved c m) ring i
+end_stays : {A : Type 0} → (c : Core A) (m : Move A) (ring : RingId) (i : ℕ) → HoldsEnd c ring i → HoldsEnd (core_after_move c m) ring i
 end_stays c m ring i e =
     let g = (moved_grows c m).fronts ring in
     let w = e.within in
@@ -67,7 +67,7 @@ ready_ends {A} c ready i j =
     × (x.number ≤ front c c.running.ring)) s.0 xs (front_held c.held c.running.ring) e.0 in
     record { message = s.0; held = h.0; ring_is = h.1; sender = eqb-true (s.0).sender i s.2; ended = e.1; within = h.2 }
 
-pub moved_ends : {A : Type 0} → (received : Frame A → Type 0) (c : Core A) (m : Move A) → MayMove received c m → HoldsEnds c → HoldsEnds (moved c m)
+pub moved_ends : {A : Type 0} → (received : Frame A → Type 0) (c : Core A) (m : Move A) → MayMove received c m → HoldsEnds c → HoldsEnds (core_after_move c m)
 moved_ends received c (Idles state gathering last_sent queue sends) may h at j l i k = end_stays c (Idles state gathering last_sent queue sends) at.ring i (h at j l i k)
 moved_ends received c (Enters q) may h at j l i k = end_stays c (Enters q) at.ring i (h at j l i k)
 moved_ends received c (Learns q) may h at j l i k = end_stays c (Learns q) at.ring i (h at j l i k)
@@ -75,7 +75,7 @@ moved_ends received c (Visits t fresh requests again queue) may h at j l i k = e
 moved_ends received c (Takes x) may h at j l i k = end_stays c (Takes x) at.ring i (h at j l i k)
 moved_ends {A} received c Installs may h at (inl e) l i k =
     let here = ready_ends c may.ready i (subst (λ (x : Configuration). IsIn i (elements x.members)) e k) in
-    subst (λ (x : Configuration). HoldsEnd (moved c Installs) x.ring i) (sym e) (end_stays c Installs c.running.ring i here)
+    subst (λ (x : Configuration). HoldsEnd (core_after_move c Installs) x.ring i) (sym e) (end_stays c Installs c.running.ring i here)
 moved_ends received c Installs may h at (inr j) l i k = end_stays c Installs at.ring i (h at j l i k)
 
 pub opening_ends : (A : Type 0) → (n me : ℕ) → HoldsEnds (opening {A = A} n me)

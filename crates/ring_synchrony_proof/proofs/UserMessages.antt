@@ -10,12 +10,12 @@ use Rattle.ring_base.specs.Processors.{has}
 use Rattle.ring_base.specs.Rings.{same_ring}
 use Rattle.ring_base.specs.declared.ring_id.RingId.{RingId}
 use Rattle.ring_base.proofs.Each.{each-weaker, each-filter, each-filter_map}
-use Rattle.ring_payload.specs.Kinds.{is_user}
+use Rattle.ring_payload.specs.PayloadKinds.{is_user}
 use Rattle.ring_wire.specs.declared.message.Message.{Message}
 use Rattle.ring_core_spec.specs.Windows.{is_numbered, found}
 use Rattle.ring_base.proofs.SameRing.{ring_same}
 use Rattle.ring_core_spec.specs.Recoveries.{Plan, safe, low, is_known, gap, known_above_safe}
-use Rattle.ring_core_spec.specs.Recoveries.{is_from_transitional_member_if_there, is_from_transitional_member, transitional_part, past_gap_part, rests}
+use Rattle.ring_core_spec.specs.Recoveries.{is_from_transitional_member_if_there, is_from_transitional_member, transitional_part, past_gap_part, rest_messages}
 use Rattle.ring_core_proof.specs.FactWords.{IsIn}
 use Rattle.ring_core_proof.proofs.InLists.{in-left, in-right, each-in, find-in, in-filter, in-numbers, in-filter_map}
 use Rattle.ring_synchrony_proof.proofs.Quantified.{numbers_in}
@@ -107,7 +107,7 @@ known_there p n above within k = in-filter (is_known p) n (numbers_from (safe p 
 pub in_rest : {A : Type 0} → (p : Plan) (held : List (Message A))
     → ((n : ℕ) → is_known p n ≡ true → n ≤ safe p + window_size) → safe p ≤ low p → (x : Message A) →
     found held p.old x.number ≡ Some x → is_user x.payload ≡ true → safe p < x.number → is_known p x.number ≡ true
-    → (x.number < gap p) ⊎ (has p.transitional_members x.sender ≡ true) → IsIn x (rests p held)
+    → (x.number < gap p) ⊎ (has p.transitional_members x.sender ≡ true) → IsIn x (rest_messages p held)
 in_rest {A} p held reach sound x f u above k side =
     let n = x.number in
     let there = known_there p n above (reach n k) k in

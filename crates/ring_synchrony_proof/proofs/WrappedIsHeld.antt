@@ -29,8 +29,8 @@ use Rattle.ring_core_spec.specs.Views.{front, mark}
 use Rattle.ring_core_spec.specs.Transitions.{old_ring_messages, message_taken}
 use Rattle.ring_core_proof.specs.FactWords.{IsIn}
 use Rattle.ring_core_proof.specs.declared.event.RingEvent.{RingEvent}
-use Rattle.ring_core_proof.specs.Worlds.{Transmission, put, transmissions_from, run, unformed}
-use Rattle.ring_core_proof.specs.Moves.{Move, Idles, Enters, Learns, Visits, Takes, Installs, moved, sends_of, MayMove, MayVisit, MayTake}
+use Rattle.ring_core_proof.specs.Worlds.{Transmission, with_core, transmissions_from, run, unformed}
+use Rattle.ring_core_proof.specs.Moves.{Move, Idles, Enters, Learns, Visits, Takes, Installs, core_after_move, sends_of, MayMove, MayVisit, MayTake}
 use Rattle.ring_core_proof.specs.Moves.{IsReceivedFrame, IsWrapping}
 use Rattle.ring_core_proof.proofs.InLists.{in-each, each-in, in-left, in-parts}
 use Rattle.ring_core_proof.proofs.WithinWindow.{mark_below}
@@ -52,7 +52,7 @@ pub record IsLow {A : Type 0} (c : Core A) : Type 0 where
   pub low : Each (λ (x : Message A). x.ring.seq ≤ floor c) c.held
   pub fresh : c.state ≡ Commit → Each (λ (x : Message A). x.ring.seq < floor c) c.held
 
-moved_low : {A : Type 0} → (received : Frame A → Type 0) (c : Core A) (m : Move A) → MayMove received c m → IsLocal c → IsLow c → IsLow (moved c m)
+moved_low : {A : Type 0} → (received : Frame A → Type 0) (c : Core A) (m : Move A) → MayMove received c m → IsLocal c → IsLow c → IsLow (core_after_move c m)
 moved_low received c (Idles state gathering last_sent queue sends) may l p =
     record {
       low = p.low;
@@ -196,7 +196,7 @@ module _ {A : Type 0} (cores : ℕ → Core A) (frames : List (Transmission A)) 
         ]
       ]
 
-  moved_unwraps : (m : Move A) → MayMove (IsReceivedFrame frames i) c m → IsLow c → Unwraps c → Unwraps (moved c m)
+  moved_unwraps : (m : Move A) → MayMove (IsReceivedFrame frames i) c m → IsLow c → Unwraps c → Unwraps (core_after_move c m)
   moved_unwraps (Idles state gathering last_sent queue sends) may l u s x j ring w e old =
       elim (may.leaves) [
         | inl k ↦ u (sym k ∙ s) x j ring w e old
@@ -232,9 +232,9 @@ pub record AllUnwrap {A : Type 0} (cores : ℕ → Core A) (frames : List (Trans
 
 pub unwrap_moved : {A : Type 0} → (cores : ℕ → Core A) (frames : List (Transmission A)) (i : ℕ) (m : Move A) → 1 ≤ i
     → MayMove (IsReceivedFrame frames i) (cores i) m → AllUnwrap cores frames →
-    AllUnwrap (put cores i (moved (cores i) m)) (frames ++ transmissions_from i (sends_of (cores i) m))
+    AllUnwrap (with_core cores i (core_after_move (cores i) m)) (frames ++ transmissions_from i (sends_of (cores i) m))
 unwrap_moved {A} cores frames i m low may a =
-    let d = moved (cores i) m in
+    let d = core_after_move (cores i) m in
     record {
       rec = recovering.moves cores frames i m low may a.rec;
       low = put-each (λ q (x : Core A). IsLow x) cores i d (λ q n. a.low q) (moved_low (IsReceivedFrame frames i) (cores i) m may ((a.rec).local i) (a.low i));

@@ -7,7 +7,7 @@ use Rattle.std.specs.List.{AllByRecursion as Each}
 use Rattle.std.proofs.lemmas.Bool.{false≢true}
 use Rattle.ring_base.specs.declared.ring_id.RingId.{RingId}
 use Rattle.ring_base.proofs.Each.{each-weaker}
-use Rattle.ring_payload.specs.Kinds.{is_user, is_end}
+use Rattle.ring_payload.specs.PayloadKinds.{is_user, is_end}
 use Rattle.ring_payload.specs.declared.content.Payload.{Payload}
 use Rattle.ring_wire.specs.declared.frame.Frame.{Frame}
 use Rattle.ring_wire.specs.declared.message.Message.{Message}
@@ -19,7 +19,7 @@ use Rattle.ring_core_spec.specs.State.{Core}
 use Rattle.ring_core_spec.specs.Views.{plan}
 use Rattle.ring_core_spec.proofs.Recoveries.{end_no_user}
 use Rattle.ring_core_proof.specs.FactWords.{IsIn, SomeIs}
-use Rattle.ring_core_proof.specs.Moves.{Move, Idles, Enters, Learns, Visits, Takes, Installs, moved, MayMove, MayVisit, AreWraps, AllAreUsers}
+use Rattle.ring_core_proof.specs.Moves.{Move, Idles, Enters, Learns, Visits, Takes, Installs, core_after_move, MayMove, MayVisit, AreWraps, AllAreUsers}
 use Rattle.ring_core_proof.proofs.InLists.{in-left, in-right, in-reverse}
 use Rattle.ring_core_proof.proofs.WrapsAndEnd.{seen_of}
 use Rattle.ring_core_proof.proofs.OwnMessages.{held_stays}
@@ -34,7 +34,7 @@ use Rattle.ring_synchrony_proof.proofs.OwnPlanReport.{HasOwn, KnowsOwn, plan_is}
 
 -- Facts that stay
 
-handed_stays : {A : Type 0} → (c : Core A) (m : Move A) (ring : RingId) (n : ℕ) → HasHandedOn c ring n → HasHandedOn (moved c m) ring n
+handed_stays : {A : Type 0} → (c : Core A) (m : Move A) (ring : RingId) (n : ℕ) → HasHandedOn c ring n → HasHandedOn (core_after_move c m) ring n
 handed_stays {A} c m ring n p =
     let g = moved_grows c m in
     record {
@@ -68,7 +68,7 @@ module _ {A : Type 0} (received : Frame A → Type 0) (c : Core A) (t : Token) (
     (requests : List ℕ) (again : List (Message A)) (queue : List (Payload A))
     (h : MayVisit received c t fresh again queue) where
   abbrev d : Core A
-  d = moved c (Visits t fresh requests again queue)
+  d = core_after_move c (Visits t fresh requests again queue)
 
   abbrev sent : List (Message A)
   sent = numbered t.ring c.me t.seq fresh
@@ -132,12 +132,12 @@ module _ {A : Type 0} (received : Frame A → Type 0) (c : Core A) (t : Token) (
 
 pub moved_handed : {A : Type 0} → (received : Frame A → Type 0) (c : Core A) (m : Move A) → MayMove received c m → KnowsOwn c → AllAreUsers c.queue →
     Each (EndsBehindWraps c) c.turns →
-    Each (EndsBehindWraps (moved c m)) (moved c m).turns
+    Each (EndsBehindWraps (core_after_move c m)) (core_after_move c m).turns
 moved_handed {A} received c m h knows queued e =
     go m h
-    (each-weaker (EndsBehindWraps c) (EndsBehindWraps (moved c m)) (λ v s x i u. handed_stays c m v.received.ring x.number (s x (sent_back c m v x i) u)) c.turns e)
+    (each-weaker (EndsBehindWraps c) (EndsBehindWraps (core_after_move c m)) (λ v s x i u. handed_stays c m v.received.ring x.number (s x (sent_back c m v x i) u)) c.turns e)
   where
-    go : (m : Move A) → MayMove received c m → Each (EndsBehindWraps (moved c m)) c.turns → Each (EndsBehindWraps (moved c m)) (moved c m).turns
+    go : (m : Move A) → MayMove received c m → Each (EndsBehindWraps (core_after_move c m)) c.turns → Each (EndsBehindWraps (core_after_move c m)) (core_after_move c m).turns
     go (Idles state gathering last_sent queue sends) h k = k
     go (Enters q) h k = k
     go (Learns q) h k = k

@@ -4,12 +4,12 @@ use Rattle.std.specs.Prelude.{◌≡◌, ℕ, Bool, true, false, ◌&&◌, if◌
 use Rattle.ring_base.specs.Numbers.{numbers_from}
 use Rattle.ring_base.specs.Rings.{same_ring}
 use Rattle.ring_base.specs.declared.ring_id.RingId.{RingId}
-use Rattle.ring_payload.specs.Kinds.{is_user}
+use Rattle.ring_payload.specs.PayloadKinds.{is_user}
 use Rattle.ring_wire.specs.declared.message.Message.{Message}
 use Rattle.ring_core_spec.specs.Windows.{found}
 use Rattle.ring_core_spec.specs.Commits.{Configuration}
 use Rattle.ring_core_proof.specs.Worlds.{World, is_node}
-use Rattle.ring_core_proof.specs.EpochHistories.{Stage, InRegular, InTransitional, life_of, stages_of, is_regular_of, leads_to, delivered_in}
+use Rattle.ring_core_proof.specs.Lives.{Stage, InRegular, InTransitional, life_of, stages_of, is_regular_of, leads_to, delivered_in}
 
 -- Processor i is one of the world's.
 abbrev pub IsNode : {A : Type 0} → World A → ℕ → Type 0

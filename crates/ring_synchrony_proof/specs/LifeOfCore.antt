@@ -3,15 +3,15 @@
 -- Rules: Outputs 9 and 10
 use Rattle.std.specs.Prelude.{List, [], ◌∷◌}
 use Rattle.ring_core_spec.specs.Commits.{Configuration}
-use Rattle.ring_core_spec.specs.Recoveries.{Plan, plan_of, rests}
+use Rattle.ring_core_spec.specs.Recoveries.{Plan, plan_of, rest_messages}
 use Rattle.ring_core_spec.specs.State.{Core}
 use Rattle.ring_core_spec.specs.Views.{front, mark, entries_for}
-use Rattle.ring_core_spec.specs.Giving.{users}
-use Rattle.ring_core_proof.specs.EpochHistories.{Stage, InRegular, InTransitional, Life}
+use Rattle.ring_core_spec.specs.Giving.{user_messages_between}
+use Rattle.ring_core_proof.specs.Lives.{Stage, InRegular, InTransitional, Life}
 
 -- The regular stage of an installed ring, with its agreed messages and its safe mark.
 abbrev pub regular_stage : {A : Type 0} → Core A → Configuration → Stage A
-regular_stage c at = InRegular at (users c at.ring 0 (front c at.ring)) (mark c at.ring)
+regular_stage c at = InRegular at (user_messages_between c at.ring 0 (front c at.ring)) (mark c at.ring)
 
 -- The plan by which a ring was installed after another.
 abbrev pub plan_into : {A : Type 0} → Core A → Configuration → Configuration → Plan
@@ -19,7 +19,7 @@ plan_into c next old = plan_of old.ring next.members (entries_for next.ring c.pl
 
 -- The transitional stage from the old ring to the next.
 abbrev pub between : {A : Type 0} → Core A → Configuration → Configuration → Stage A
-between c next old = InTransitional old.ring next.ring (plan_into c next old).transitional_members (rests (plan_into c next old) c.held)
+between c next old = InTransitional old.ring next.ring (plan_into c next old).transitional_members (rest_messages (plan_into c next old) c.held)
 
 -- The stages before an installed ring, from the rings installed before it, newest first.
 abbrev pub earlier_stages : {A : Type 0} → Core A → Configuration → List Configuration → List (Stage A)

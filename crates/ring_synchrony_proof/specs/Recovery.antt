@@ -5,7 +5,7 @@
 use Rattle.std.specs.Prelude.{◌≡◌, ℕ, ◌<◌, ◌≤◌, true}
 use Rattle.ring_base.specs.Processors.{has, elements}
 use Rattle.ring_base.specs.declared.ring_id.RingId.{RingId}
-use Rattle.ring_payload.specs.Kinds.{is_end}
+use Rattle.ring_payload.specs.PayloadKinds.{is_end}
 use Rattle.ring_payload.specs.declared.content.Payload.TheVariants.{Wrapped}
 use Rattle.ring_payload.specs.declared.content.Wrapped.{Wrapped as WrappedMessage}
 use Rattle.ring_wire.specs.declared.message.Message.{Message}

@@ -8,10 +8,10 @@ use Rattle.ring_payload.specs.declared.call.Call.{Call as OneCall}
 use Rattle.ring_payload.specs.declared.calls.Part.{Part as OnePart}
 use Rattle.ring_payload.specs.declared.head.Head.{Head as OneHead}
 use Rattle.ring_payload.specs.declared.snap.Snap.{Snap as OneSnap}
-use Rattle.ring_payload.specs.declared.content.Content.{Content}
-use Rattle.ring_payload.specs.declared.content.Content.TheVariants.{Call as CallContent, Head as HeadContent}
-use Rattle.ring_payload.specs.declared.content.Content.TheVariants.{Part as PartContent, Pack as PackContent}
-use Rattle.ring_payload.specs.declared.content.Content.TheVariants.{Snap as SnapContent}
+use Rattle.ring_payload.specs.declared.content.WrappedPayload.{WrappedPayload}
+use Rattle.ring_payload.specs.declared.content.WrappedPayload.TheVariants.{Call as CallContent, Head as HeadContent}
+use Rattle.ring_payload.specs.declared.content.WrappedPayload.TheVariants.{Part as PartContent, Pack as PackContent}
+use Rattle.ring_payload.specs.declared.content.WrappedPayload.TheVariants.{Snap as SnapContent}
 use Rattle.ring_payload.specs.declared.content.Payload.{Payload}
 use Rattle.ring_payload.specs.declared.content.Payload.TheVariants.{Call, Wrapped, End, Head, Part, Pack, Snap}
 use Rattle.ring_payload.specs.declared.content.Wrapped.{Wrapped as WrappedMessage}
@@ -43,7 +43,7 @@ abbrev pub same_snap : {A : Type 0} → OneSnap A → OneSnap A → Bool
 same_snap a b = (a.at == b.at) && ((a.total == b.total) && ((a.offset == b.offset) && bytes_eq a.bytes b.bytes))
 
 -- The contents of Wrapped are the same.
-abbrev pub same_content : {A : Type 0} → Content A → Content A → Bool
+abbrev pub same_content : {A : Type 0} → WrappedPayload A → WrappedPayload A → Bool
 same_content (CallContent a) (CallContent b) = is_same b a
 same_content (HeadContent a) (HeadContent b) = same_head a b
 same_content (PartContent a) (PartContent b) = same_part a b

@@ -6,14 +6,14 @@ use Rattle.std.specs.Prelude.{◌≡◌, ℕ, ◌<◌, ◌≤◌, ◌⊎◌, tru
 use Rattle.std.specs.List.{AllByRecursion}
 use Rattle.ring_base.specs.Processors.{has, elements}
 use Rattle.ring_base.specs.declared.ring_id.RingId.{RingId}
-use Rattle.ring_payload.specs.Kinds.{is_user}
+use Rattle.ring_payload.specs.PayloadKinds.{is_user}
 use Rattle.ring_wire.specs.declared.message.Message.{Message}
 use Rattle.ring_core_spec.specs.Commits.{Configuration}
 use Rattle.ring_core_spec.specs.Views.{front}
 use Rattle.ring_core_proof.specs.FactWords.{IsIn}
 use Rattle.ring_core_proof.specs.Worlds.{World}
 use Rattle.ring_core_proof.specs.Texts.{HasOneText, text_of}
-use Rattle.ring_core_proof.specs.EpochHistories.{Stage, InRegular, InTransitional, has_ordered_outputs, delivered_in}
+use Rattle.ring_core_proof.specs.Lives.{Stage, InRegular, InTransitional, has_ordered_outputs, delivered_in}
 use Rattle.ring_core_proof.specs.CommitRounds.{is_above, all_pairs}
 use Rattle.ring_synchrony_proof.specs.Changes.{IsNode, stages_in, agreed_of, deliveries_of, users_upto, regulars_of, members_in}
 use Rattle.ring_synchrony_proof.specs.Changes.{alternate, ends_in_regular, Change, changes_in, delivered_by}

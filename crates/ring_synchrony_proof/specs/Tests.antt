@@ -1,5 +1,5 @@
 -- Virtual synchrony as a test, fact by fact, to compute for worked runs, for random schedules and for wrong lives.
--- `tests_law` states that a test succeeds exactly if its fact holds.
+-- `tests_decide_facts_law` states that a test succeeds exactly if its fact holds.
 -- Rules: Outputs 11
 use Rattle.std.specs.Prelude.{ℕ, Bool, true, false, ◌&&◌, ◌||◌, ◌==◌, nat_lt, nat_le, if◌then◌else◌, List, [], ◌∷◌, ◌++◌, map, Option, Some, None}
 use Rattle.std.specs.List.{list_all, list_any}
@@ -7,7 +7,7 @@ use Rattle.ring_base.specs.Numbers.{numbers_from}
 use Rattle.ring_base.specs.Processors.{has, elements}
 use Rattle.ring_base.specs.Rings.{same_ring}
 use Rattle.ring_base.specs.declared.ring_id.RingId.{RingId}
-use Rattle.ring_payload.specs.Kinds.{is_user}
+use Rattle.ring_payload.specs.PayloadKinds.{is_user}
 use Rattle.ring_wire.specs.declared.message.Message.{Message}
 use Rattle.ring_core_spec.specs.Windows.{found}
 use Rattle.ring_core_spec.specs.Commits.{Configuration}
@@ -15,7 +15,7 @@ use Rattle.ring_core_spec.specs.State.{Core}
 use Rattle.ring_core_spec.specs.Views.{front}
 use Rattle.ring_core_proof.specs.Worlds.{World, is_node}
 use Rattle.ring_core_proof.specs.Texts.{text_of}
-use Rattle.ring_core_proof.specs.EpochHistories.{Stage, InRegular, InTransitional, has_ordered_outputs, delivered_in}
+use Rattle.ring_core_proof.specs.Lives.{Stage, InRegular, InTransitional, has_ordered_outputs, delivered_in}
 use Rattle.ring_core_proof.specs.CommitRounds.{is_above, all_pairs}
 use Rattle.ring_synchrony_proof.specs.Changes.{stages_in, agreed_of, deliveries_of, users_upto, regulars_of, members_in, alternate, ends_in_regular, Change}
 use Rattle.ring_synchrony_proof.specs.Changes.{changes_in, delivered_by}
@@ -24,8 +24,8 @@ use Rattle.ring_synchrony_proof.specs.Same.{same_message, same_messages}
 -- Tests of all processors
 
 -- Each processor of the world passes the test.
-abbrev pub of_all : {A : Type 0} → World A → (ℕ → Bool) → Bool
-of_all w test = list_all test (numbers_from 1 w.total)
+abbrev pub all_processors : {A : Type 0} → World A → (ℕ → Bool) → Bool
+all_processors w test = list_all test (numbers_from 1 w.total)
 
 -- The message is one of the list.
 abbrev pub has_message : {A : Type 0} → Message A → List (Message A) → Bool
@@ -95,10 +95,10 @@ is_within_front c (InTransitional old new members rest) = true
 abbrev pub has_same_text : {A : Type 0} → World A → Bool
 has_same_text w =
     has_one_text w
-    && (of_all w (agrees_with_texts w)
-    && (of_all w (λ i. list_all (rests_in_text w) (stages_in w i))
-    && (of_all w (λ i. all_pairs is_before (deliveries_of (stages_in w i)))
-    && of_all w (λ i. list_all (is_within_front (w.cores i)) (stages_in w i)))))
+    && (all_processors w (agrees_with_texts w)
+    && (all_processors w (λ i. list_all (rests_in_text w) (stages_in w i))
+    && (all_processors w (λ i. all_pairs is_before (deliveries_of (stages_in w i)))
+    && all_processors w (λ i. list_all (is_within_front (w.cores i)) (stages_in w i)))))
 
 -- `safe_delivery`
 
@@ -121,7 +121,7 @@ is_safe_stage w (InTransitional old new members rest) = true
 
 -- Each delivery in each regular configuration of each life is safely delivered at each member.
 abbrev pub delivers_safely : {A : Type 0} → World A → Bool
-delivers_safely w = of_all w (λ i. list_all (is_safe_stage w) (stages_in w i))
+delivers_safely w = all_processors w (λ i. list_all (is_safe_stage w) (stages_in w i))
 
 -- `same_deliveries`
 
@@ -137,7 +137,7 @@ are_alike a b = if same_ring a.old.ring b.old.ring && same_ring a.new.ring b.new
 
 -- Any two changes of any two lives from one ring to the same next one are equal.
 abbrev pub delivers_alike : {A : Type 0} → World A → Bool
-delivers_alike w = of_all w (λ i. of_all w (λ j. list_all (λ a. list_all (are_alike a) (changes_in w j)) (changes_in w i)))
+delivers_alike w = all_processors w (λ i. all_processors w (λ j. list_all (λ a. list_all (are_alike a) (changes_in w j)) (changes_in w i)))
 
 -- `configurations`
 
@@ -149,8 +149,8 @@ is_same_to at b = if same_ring at.ring b.ring then same_configuration at b else 
 -- group.
 abbrev pub is_shared : {A : Type 0} → World A → Configuration → Bool
 is_shared w at =
-    of_all w (λ j. list_all (is_same_to at) (regulars_of (stages_in w j)))
-    && (of_all w (λ j. list_all (is_same_to at) (w.cores j).rings) && list_all (is_node w) (elements at.members))
+    all_processors w (λ j. list_all (is_same_to at) (regulars_of (stages_in w j)))
+    && (all_processors w (λ j. list_all (is_same_to at) (w.cores j).rings) && list_all (is_node w) (elements at.members))
 
 -- The processor took part in the configuration's ring, with these members.
 abbrev pub is_taken_part : {A : Type 0} → World A → ℕ → Configuration → Bool
@@ -186,7 +186,7 @@ has_configurations w i =
 
 -- Each processor passes the test of `HasConfigurations`.
 abbrev pub have_configurations : {A : Type 0} → World A → Bool
-have_configurations w = of_all w (has_configurations w)
+have_configurations w = all_processors w (has_configurations w)
 
 -- `own_delivery`
 
@@ -196,7 +196,7 @@ is_own_among i xs x = if (x.sender == i) && is_user x.payload then has_message x
 
 -- A processor's own user messages in the text of a ring that it left are among the deliveries of that change.
 abbrev pub delivers_own : {A : Type 0} → World A → Bool
-delivers_own w = of_all w (λ i. list_all (λ (c : Change _). list_all (is_own_among i (delivered_by c)) (text_of w c.old.ring)) (changes_in w i))
+delivers_own w = all_processors w (λ i. list_all (λ (c : Change _). list_all (is_own_among i (delivered_by c)) (text_of w c.old.ring)) (changes_in w i))
 
 -- All five facts
 

@@ -9,8 +9,8 @@ use Rattle.ring_wire.specs.declared.message.Message.{Message}
 use Rattle.ring_core_spec.specs.Commits.{Configuration}
 use Rattle.ring_core_spec.specs.declared.out.Out.{Out}
 use Rattle.ring_core_spec.specs.declared.out.Out.TheVariants.{Send, Agreed, Safe, Trans, Rest, Regular}
-use Rattle.ring_core_spec.specs.State.{Core, alone, opening}
-use Rattle.ring_core_proof.specs.Worlds.{World, put}
+use Rattle.ring_core_spec.specs.State.{Core, opening_ring, opening}
+use Rattle.ring_core_proof.specs.Worlds.{World, with_core}
 use Rattle.ring_core_proof.specs.Samples.{ring_of, first_ring, second_ring, call_at, message_of}
 
 -- The messages that both hold of the first ring: two Ends, and calls 3, 4 and 5 of processor 2
@@ -66,12 +66,12 @@ installed_by (Rest ring n x) = None
 
 -- The core of processor i, which took part in its opening ring and in these, oldest first.
 abbrev pub with_rings : ℕ → List Configuration → Core Global → Core Global
-with_rings i rings c = record c { rings = reverse (alone i ∷ rings) }
+with_rings i rings c = record c { rings = reverse (opening_ring i ∷ rings) }
 
 -- A world of two with these cores and these outputs.
 abbrev pub world_of_cores : Core Global → Core Global → List (Out Global) → List (Out Global) → World Global
 world_of_cores one two first second =
-    record { total = 2; cores = put (put (opening 2) 1 one) 2 two; frames = []; outs = given_by 1 first ++ given_by 2 second }
+    record { total = 2; cores = with_core (with_core (opening 2) 1 one) 2 two; frames = []; outs = given_by 1 first ++ given_by 2 second }
 
 -- The same, but each took part in the rings that its outputs install.
 abbrev pub world_with : Core Global → Core Global → List (Out Global) → List (Out Global) → World Global

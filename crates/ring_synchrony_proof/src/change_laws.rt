@@ -24,7 +24,7 @@ use std::alloc::{Allocator, Global};
 /// - `own_delivery`: a processor's own user messages of a ring are delivered before its next regular configuration.
 ///
 /// Rules: Outputs 11
-pub fn changes_law<A: Allocator + Copy>()
+pub fn three_facts_law<A: Allocator + Copy>()
     ensures same_deliveries { (n : ℕ) (events : List (RingEvent A)) → DeliversAlike (run (unformed n) events) }
     ensures configurations { (n : ℕ) (events : List (RingEvent A)) (i : ℕ) → IsNode (run (unformed n) events) i
         → HasConfigurations (run (unformed n) events) i }
@@ -41,7 +41,7 @@ pub fn changes_law<A: Allocator + Copy>()
 /// - It holds the inner messages of the running ring's messages.
 ///
 /// Rules: Recovery 1, 3, 6 and 7
-pub fn recovery_law<A: Allocator + Copy>()
+pub fn recovery_facts_law<A: Allocator + Copy>()
     ensures ends { (n : ℕ) (events : List (RingEvent A)) (q : ℕ) → HoldsEnds ((run (unformed n) events).cores q) }
     ensures recovers { (n : ℕ) (events : List (RingEvent A)) (q : ℕ) → ((run (unformed n) events).cores q).state
         ≡ Recovery → IsRecovering ((run (unformed n) events).cores q) }
@@ -50,14 +50,14 @@ pub fn recovery_law<A: Allocator + Copy>()
 /// States that a run from the opening is virtually synchronous if one more fact holds.
 ///
 /// That fact is that a processor that holds a user message of a ring within its front has installed the ring.
-/// `ready_law` states it for every run.
+/// `ready_rings_installed_law` states it for every run.
 ///
 /// Rules: Recovery 7; Outputs 11
-pub fn whole_law<A: Allocator + Copy>()
+pub fn synchrony_if_installed_law<A: Allocator + Copy>()
     ensures { (n : ℕ) (events : List (RingEvent A)) → HoldersHaveInstalled (run (unformed n) events) → IsVirtuallySynchronous (run (unformed n) events) }
 {}
 
-/// States the first fact of [`changes_law`] for the allocator that programs use. Nothing calls this function.
+/// States the first fact of [`three_facts_law`] for the allocator that programs use. Nothing calls this function.
 ///
 /// A law is proved for all allocators that meet its bounds; this function shows that `Global` does.
 ///
@@ -65,7 +65,7 @@ pub fn whole_law<A: Allocator + Copy>()
 pub fn changes_at_global()
     ensures { (n : ℕ) (events : List (RingEvent Heap)) → DeliversAlike (run (unformed n) events) }
 {
-    changes_law::<Global>();
-    whole_law::<Global>();
-    recovery_law::<Global>();
+    three_facts_law::<Global>();
+    synchrony_if_installed_law::<Global>();
+    recovery_facts_law::<Global>();
 }

@@ -9,6 +9,6 @@
 
 pub mod change_laws;
 pub mod examples;
-pub mod laws;
 pub mod life_laws;
 pub mod ready_laws;
+pub mod test_laws;

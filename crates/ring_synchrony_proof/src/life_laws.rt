@@ -6,7 +6,7 @@ ghost use Rattle.std.specs.Prelude.{◌≡◌, ℕ, List, true};
 ghost use Rattle.std.specs.declared.alloc.Global.{Global as Heap};
 ghost use Rattle.ring_core_proof.specs.declared.event.RingEvent.{RingEvent};
 ghost use Rattle.ring_core_proof.specs.Worlds.{run, unformed};
-ghost use Rattle.ring_core_proof.specs.EpochHistories.{life_of, has_ordered_outputs};
+ghost use Rattle.ring_core_proof.specs.Lives.{life_of, has_ordered_outputs};
 ghost use Rattle.ring_synchrony_proof.specs.LifeOfCore.{core_life};
 
 use std::alloc::{Allocator, Global};

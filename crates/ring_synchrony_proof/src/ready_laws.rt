@@ -22,7 +22,7 @@ use std::alloc::{Allocator, Global};
 ///   the old ring that its commit entry reports as held and that is above `low`, the least reported front.
 ///
 /// Rules: The commit token 2; Recovery 1, 4 and 7
-pub fn order_law<A: Allocator + Copy>()
+pub fn ends_order_law<A: Allocator + Copy>()
     ensures { (n : ℕ) (events : List (RingEvent A)) (q : ℕ) → KeepsOrder ((run (unformed n) events).cores q) }
 {}
 
@@ -34,7 +34,7 @@ pub fn order_law<A: Allocator + Copy>()
 /// - A processor that holds a user message of a ring within its front has installed that ring.
 ///
 /// Rules: Recovery 7 and 8
-pub fn ready_law<A: Allocator + Copy>()
+pub fn ready_rings_installed_law<A: Allocator + Copy>()
     ensures complete { (n : ℕ) (events : List (RingEvent A)) (q : ℕ) → ReadyIsComplete ((run (unformed n) events).cores q) }
     ensures installed { (n : ℕ) (events : List (RingEvent A)) (q : ℕ) → ReadyIsInstalled ((run (unformed n) events).cores q) }
     ensures heard { (n : ℕ) (events : List (RingEvent A)) → HoldersHaveInstalled (run (unformed n) events) }
@@ -55,10 +55,10 @@ pub fn virtual_synchrony_law<A: Allocator + Copy>()
 /// A law is proved for all allocators that meet its bounds; this function shows that `Global` does.
 ///
 /// Rules: Outputs 11
-pub fn laws_at_global()
+pub fn synchrony_laws_at_global()
     ensures { (n : ℕ) (events : List (RingEvent Heap)) → IsVirtuallySynchronous (run (unformed n) events) }
 {
-    order_law::<Global>();
-    ready_law::<Global>();
+    ends_order_law::<Global>();
+    ready_rings_installed_law::<Global>();
     virtual_synchrony_law::<Global>();
 }

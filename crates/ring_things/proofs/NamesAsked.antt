@@ -4,7 +4,7 @@ use Rattle.std.proofs.Common.{sym, ◌∙◌, subst, arith}
 use Rattle.std.proofs.lemmas.Bool.{cond-true, eqb-false, le-leb, and_from}
 use Rattle.std.proofs.lemmas.List.{take_rest}
 use Rattle.ring_object.specs.Bytes.{AreBytes}
-use Rattle.ring_things.specs.Replies.{AreBytes-drop}
+use Rattle.ring_things.specs.ReplyBytes.{AreBytes-drop}
 use Rattle.ring_things.specs.Names.{IsName, is_name, name_operation, decoding}
 
 -- The bytes after the code.

@@ -14,7 +14,7 @@ use Rattle.std.proofs.lemmas.Bool.{cond_both, cond-true, cond-false, cases_lt, c
 use Rattle.std.proofs.lemmas.List.Folds.{list_any_none, list_any_at}
 use Rattle.std.proofs.lemmas.Map.Keys.{Less-from_sorted}
 use Rattle.ring_base.proofs.Cases.{Less-from}
-use Rattle.ring_things.specs.Names.{by_bytes, AreAscending, same, has, below, without, IsFound, IsMissing}
+use Rattle.ring_things.specs.Names.{by_bytes, AreAscending, same, has, below, without_name, IsFound, IsMissing}
 use Rattle.ring_things.specs.NamesLaws.{above, All-above}
 
 -- A function that stays unchanged satisfies P at each call.
@@ -82,11 +82,11 @@ above_same : (name x : List ℕ) (xs : List (List ℕ)) → by_bytes x name ≡ 
 above_same name x [] equal above_x = tt
 above_same name x (y ∷ ys) equal above_x = (sym (nat_list_cmp_total.congr x name y equal) ∙ above_x.0, above_same name x ys equal above_x.1)
 
-remove-below : (name : List ℕ) (names : List (List ℕ)) → AreAscending names → has name names ≡ true → remove names (below name names) ≡ without name names
+remove-below : (name : List ℕ) (names : List (List ℕ)) → AreAscending names → has name names ≡ true → remove names (below name names) ≡ without_name name names
 unfolding IsStrictlySortedBy below
 remove-below name [] ascending there = absurd cc
 remove-below name (x ∷ xs) ascending there =
-    cond_both (is_lt (by_bytes x name)) (suc (below name xs)) 0 (λ (i : ℕ). remove (x ∷ xs) i ≡ without name (x ∷ xs))
+    cond_both (is_lt (by_bytes x name)) (suc (below name xs)) 0 (λ (i : ℕ). remove (x ∷ xs) i ≡ without_name name (x ∷ xs))
     (λ lower.
     let less = Less-from (by_bytes x name) lower in
     let others : has name xs ≡ true = elim (or_cases (same name x) (has name xs) there) [
@@ -103,11 +103,11 @@ remove-below name (x ∷ xs) ascending there =
     sym (cond-false (not (same name x)) _ _ (ap not here) ∙ all_differ name xs (above_same name x xs (Equal-from _ here) ascending.0)))
 
 -- Removing a name that isn't there changes nothing.
-without-missing : (name : List ℕ) (names : List (List ℕ)) → has name names ≡ false → without name names ≡ names
-without-missing name [] missing = refl
-without-missing name (x ∷ xs) missing =
+without_name-missing : (name : List ℕ) (names : List (List ℕ)) → has name names ≡ false → without_name name names ≡ names
+without_name-missing name [] missing = refl
+without_name-missing name (x ∷ xs) missing =
     let parts = or_parts (same name x) (has name xs) missing in
-    cond-true (not (same name x)) _ _ (ap not parts.0) ∙ ap (λ ys. x ∷ ys) (without-missing name xs parts.1)
+    cond-true (not (same name x)) _ _ (ap not parts.0) ∙ ap (λ ys. x ∷ ys) (without_name-missing name xs parts.1)
 
 pub place_is : (names : List (List ℕ)) (name : List ℕ) (place : Result ℕ ℕ) → AreAscending names
     → IsSearchInRange place (length names) → IsBinarySearchResult (λ other. by_bytes other name) names place →
@@ -128,7 +128,7 @@ place_is names name (Err i) ascending within at =
     ]) in
     let is : i ≡ below name names = below_is names name i within (λ k less. parts.0 k [] (omega arith) less)
     (λ less. ap is_lt (parts.1 i [] (omega arith) less)) in
-    record { nowhere = nowhere; within = within; with_it = ap (λ place. insert names place name) is; others = sym (without-missing name names nowhere) }
+    record { nowhere = nowhere; within = within; with_it = ap (λ place. insert names place name) is; others = sym (without_name-missing name names nowhere) }
 
 -- The two cases of a property of a result.
 pub if_ok : {A B : Type 0} (P : A → Type 0) (Q : B → Type 0) (r : Result A B) → MatchResult r P Q → IfOk r P

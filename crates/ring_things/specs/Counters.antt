@@ -3,7 +3,7 @@
 -- Formats: Operations and replies
 use Rattle.std.specs.Prelude.{ℕ, ◌+◌, ◌^◌, Bool, ◌==◌, nat_lt, ◌&&◌, if◌then◌else◌, List, [], ◌∷◌, length, slice_index, slice_set, Option, Some, None, is_some}
 use Rattle.byteorder.specs.Endian.{big_bytes, big_number}
-use Rattle.ring_object.specs.Operations.{unreadable}
+use Rattle.ring_object.specs.Operations.{unreadable_reply}
 use Rattle.ring_things.specs.declared.counters.CounterOperation.{CounterOperation}
 use Rattle.ring_things.specs.declared.counters.CounterOperation.TheVariants.{Add, Read}
 
@@ -30,7 +30,7 @@ abbrev pub reply_to : List ℕ → Option CounterOperation → List ℕ
 reply_to counts (Some (Add key amount)) =
     if nat_lt (slice_index counts key + amount) (2 ^ 64) then 0 ∷ big_bytes 8 (slice_index counts key + amount) else 1 ∷ []
 reply_to counts (Some (Read key)) = 0 ∷ big_bytes 8 (slice_index counts key)
-reply_to counts None = unreadable
+reply_to counts None = unreadable_reply
 
 -- The counts after a decoded operation. An add increases its key's count unless the sum is above 2^64 - 1; otherwise
 -- nothing changes.

@@ -4,8 +4,8 @@ use Rattle.std.proofs.Common.{◌≡◌, ℕ, ◌+◌, ◌^◌, false, nat_lt, L
 use Rattle.std.proofs.lemmas.Bool.{cond_both, ltb-true}
 use Rattle.ring_base.proofs.Cases.{none_of}
 use Rattle.ring_object.specs.Bytes.{AreBytes}
-use Rattle.ring_object.specs.Operations.{IsReply, unreadable}
-use Rattle.ring_things.specs.Replies.{code_fits, code_and_value_fits}
+use Rattle.ring_object.specs.Operations.{IsReply, unreadable_reply}
+use Rattle.ring_things.specs.ReplyBytes.{code_fits, code_and_value_fits}
 use Rattle.ring_things.specs.Table.{IsTable, IsTable-set, keys}
 use Rattle.ring_things.specs.Counters.{decoding, is_readable, reply, next, reply_to, after}
 use Rattle.ring_things.specs.declared.counters.CounterOperation.{CounterOperation}
@@ -34,5 +34,5 @@ pub replies_fit : (counts op : List ℕ) → AreBytes op → IsTable keys counts
 replies_fit counts op are is = reply_fits counts (decoding op)
 
 -- Bytes that are no operation get the reply `FF` and change nothing.
-pub ignored : (counts op : List ℕ) → is_readable op ≡ false → (reply counts op ≡ unreadable) × (next counts op ≡ counts)
+pub ignored : (counts op : List ℕ) → is_readable op ≡ false → (reply counts op ≡ unreadable_reply) × (next counts op ≡ counts)
 ignored counts op none = rw (none_of (decoding op) none) (refl, refl)

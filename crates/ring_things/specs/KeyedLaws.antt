@@ -8,11 +8,11 @@ use Rattle.ring_base.proofs.Cases.{map_some}
 use Rattle.ring_object.specs.Bytes.{AreBytes}
 use Rattle.ring_things.specs.Numbers.{big_number-lt, exact_8}
 use Rattle.ring_things.specs.Outcome.{value_bytes, value_in, ValueFits}
-use Rattle.ring_things.specs.Replies.{AreBytes-rest}
+use Rattle.ring_things.specs.ReplyBytes.{AreBytes-rest}
 use Rattle.ring_things.specs.OutcomeLaws.{value_in-bytes}
 use Rattle.ring_things.specs.KeyedOperation.{encoding, decoding, KeyedFits}
 use Rattle.ring_things.specs.Reads.{Reads}
-use Rattle.ring_things.specs.declared.keyed.KeyedOperation.{KeyedOperation}
+use Rattle.ring_things.specs.declared.keyed_operation.KeyedOperation.{KeyedOperation}
 
 -- The bytes of an operation are decoded to it.
 pub encoded_read : (keyed : KeyedOperation) → ValueFits keyed.value → decoding (encoding keyed) ≡ Some keyed

@@ -2,7 +2,7 @@
 use Rattle.std.specs.Prelude.{ℕ, ◌<◌, List, ◌∷◌, Option, None}
 use Rattle.std.specs.Option.{option_map}
 use Rattle.ring_things.specs.Outcome.{value_bytes, value_in, ValueFits}
-pub use Rattle.ring_things.specs.declared.keyed.KeyedOperation.{KeyedOperation}
+pub use Rattle.ring_things.specs.declared.keyed_operation.KeyedOperation.{KeyedOperation}
 
 -- The bytes of an operation.
 abbrev pub encoding : KeyedOperation → List ℕ

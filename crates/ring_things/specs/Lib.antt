@@ -9,7 +9,7 @@ pub mod Queue
 pub mod QueueLaws
 pub mod Registers
 pub mod RegistersLaws
-pub mod Replies
+pub mod ReplyBytes
 pub mod Shelf
 pub mod ShelfLaws
 pub mod Table

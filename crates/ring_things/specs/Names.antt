@@ -13,13 +13,13 @@ use Rattle.std.specs.declared.cmp.Ordering.{Ordering}
 use Rattle.std.specs.Cmp.Lexicographic.{slice_cmp}
 use Rattle.byteorder.specs.Endian.{big_bytes, big_number}
 use Rattle.ring_object.specs.Bytes.{AreBytes}
-use Rattle.ring_object.specs.Operations.{unreadable}
-use Rattle.ring_things.specs.declared.names.NameOperation.{NameOperation}
-use Rattle.ring_things.specs.declared.names.NameOperation.TheVariants.{Insert, Remove, Has}
+use Rattle.ring_object.specs.Operations.{unreadable_reply}
+use Rattle.ring_things.specs.declared.names.NamesOperation.{NamesOperation}
+use Rattle.ring_things.specs.declared.names.NamesOperation.TheVariants.{Insert, Remove, Has}
 
 -- The maximum number of names in a set.
-abbrev pub most : ℕ
-most = 1024
+abbrev pub max_names : ℕ
+max_names = 1024
 
 -- A name: 1 to 64 bytes of any value.
 pub record IsName (name : List ℕ) : Type 0 where
@@ -41,7 +41,7 @@ AreAscending names = IsStrictlySortedBy by_bytes names
 
 -- A set's content: at most 1,024 names, ascending.
 pub record IsSet (names : List (List ℕ)) : Type 0 where
-  pub few : length names ≤ most
+  pub few : length names ≤ max_names
   pub each : All IsName names
   pub ascending : AreAscending names
 
@@ -63,24 +63,24 @@ abbrev pub with_name : List ℕ → List (List ℕ) → List (List ℕ)
 with_name name names = insert names (below name names) name
 
 -- The set without the name; the same set if the name isn't in it.
-abbrev pub without : List ℕ → List (List ℕ) → List (List ℕ)
-without name names = filter (λ other. not (same name other)) names
+abbrev pub without_name : List ℕ → List (List ℕ) → List (List ℕ)
+without_name name names = filter (λ other. not (same name other)) names
 
 -- The name is in the set, at this index.
 pub record IsFound (name : List ℕ) (names : List (List ℕ)) (place : ℕ) : Type 0 where
   pub there : has name names ≡ true
   pub within : place < length names
-  pub others : remove names place ≡ without name names
+  pub others : remove names place ≡ without_name name names
 
 -- The name isn't in the set, and belongs at this index.
 pub record IsMissing (name : List ℕ) (names : List (List ℕ)) (place : ℕ) : Type 0 where
   pub nowhere : has name names ≡ false
   pub within : place ≤ length names
   pub with_it : insert names place name ≡ with_name name names
-  pub others : names ≡ without name names
+  pub others : names ≡ without_name name names
 
 -- The operation with a code and a name, if the code is one.
-abbrev pub name_operation : ℕ → List ℕ → Option NameOperation
+abbrev pub name_operation : ℕ → List ℕ → Option NamesOperation
 name_operation code name =
     if code == 1 then Some (Insert name)
     else if code == 2 then Some (Remove name)
@@ -88,12 +88,12 @@ name_operation code name =
     else None
 
 -- The operation that the bytes encode, if any: a code and a name.
-abbrev pub decoding : List ℕ → Option NameOperation
+abbrev pub decoding : List ℕ → Option NamesOperation
 decoding (code ∷ name) = if is_name name then name_operation code name else None
 decoding [] = None
 
 -- The bytes of an operation.
-abbrev pub encoding : NameOperation → List ℕ
+abbrev pub encoding : NamesOperation → List ℕ
 encoding (Insert name) = 1 ∷ name
 encoding (Remove name) = 2 ∷ name
 encoding (Has name) = 3 ∷ name
@@ -104,17 +104,17 @@ is_readable op = is_some (decoding op)
 
 -- The reply to a decoded operation. Insert: `01` if the name is present, otherwise `02` with 1,024 names, otherwise
 -- `00`. Remove and has: `00` if it is present, `01` if it is absent. Bytes that are no operation: `FF`.
-abbrev pub reply_to : List (List ℕ) → Option NameOperation → List ℕ
-reply_to names (Some (Insert name)) = if has name names then 1 ∷ [] else if length names == most then 2 ∷ [] else 0 ∷ []
+abbrev pub reply_to : List (List ℕ) → Option NamesOperation → List ℕ
+reply_to names (Some (Insert name)) = if has name names then 1 ∷ [] else if length names == max_names then 2 ∷ [] else 0 ∷ []
 reply_to names (Some (Remove name)) = if has name names then 0 ∷ [] else 1 ∷ []
 reply_to names (Some (Has name)) = if has name names then 0 ∷ [] else 1 ∷ []
-reply_to names None = unreadable
+reply_to names None = unreadable_reply
 
 -- The set after a decoded operation. An insert adds its name if there is room, a remove removes it; otherwise nothing
 -- changes.
-abbrev pub after : List (List ℕ) → Option NameOperation → List (List ℕ)
-after names (Some (Insert name)) = if has name names then names else if length names == most then names else with_name name names
-after names (Some (Remove name)) = without name names
+abbrev pub after : List (List ℕ) → Option NamesOperation → List (List ℕ)
+after names (Some (Insert name)) = if has name names then names else if length names == max_names then names else with_name name names
+after names (Some (Remove name)) = without_name name names
 after names (Some (Has name)) = names
 after names None = names
 
@@ -149,4 +149,4 @@ names_of (suc count) last bytes =
 -- The set whose snapshot is the bytes, if they are one. The empty text is below every name.
 abbrev pub set_of : List ℕ → Option (List (List ℕ))
 set_of bytes =
-    if nat_le 2 (length bytes) && nat_le (big_number 2 bytes) most then names_of (big_number 2 bytes) [] (drop 2 bytes) else None
+    if nat_le 2 (length bytes) && nat_le (big_number 2 bytes) max_names then names_of (big_number 2 bytes) [] (drop 2 bytes) else None

@@ -19,16 +19,16 @@ use Rattle.std.proofs.lemmas.List.Kept.{IsStrictlySortedBy-filter}
 use Rattle.byteorder.specs.Endian.{big_number}
 use Rattle.ring_base.proofs.Cases.{none_of, map_some, Less-from}
 use Rattle.ring_object.specs.Bytes.{AreBytes}
-use Rattle.ring_object.specs.Operations.{IsReply, unreadable}
+use Rattle.ring_object.specs.Operations.{IsReply, unreadable_reply}
 use Rattle.ring_object.specs.Snapshots.{HasExactSnapshots}
 use Rattle.ring_base.proofs.Cases.{guarded_some, and_then_some}
-use Rattle.ring_things.specs.Numbers.{exact_2, apart, together}
-use Rattle.ring_things.specs.Replies.{code_fits, AreBytes-rest, AreBytes-drop, AreBytes-take}
-use Rattle.ring_things.specs.Names.{most, IsName, is_name, by_bytes, AreAscending, IsSet, same, has, below, with_name}
-use Rattle.ring_things.specs.Names.{without, name_operation, decoding, is_readable, reply, next, reply_to, after, list_encoding}
+use Rattle.ring_things.specs.Numbers.{exact_2, sized_text-split, sized_text-join}
+use Rattle.ring_things.specs.ReplyBytes.{code_fits, AreBytes-rest, AreBytes-drop, AreBytes-take}
+use Rattle.ring_things.specs.Names.{max_names, IsName, is_name, by_bytes, AreAscending, IsSet, same, has, below, with_name}
+use Rattle.ring_things.specs.Names.{without_name, name_operation, decoding, is_readable, reply, next, reply_to, after, list_encoding}
 use Rattle.ring_things.specs.Names.{snapshot_of, next_name, names_of, set_of}
-use Rattle.ring_things.specs.declared.names.NameOperation.{NameOperation}
-use Rattle.ring_things.specs.declared.names.NameOperation.TheVariants.{Insert, Remove, Has}
+use Rattle.ring_things.specs.declared.names.NamesOperation.{NamesOperation}
+use Rattle.ring_things.specs.declared.names.NamesOperation.TheVariants.{Insert, Remove, Has}
 
 -- The empty list is a set.
 pub empty_IsSet : IsSet []
@@ -36,7 +36,7 @@ unfolding IsStrictlySortedBy
 empty_IsSet = record { few = omega arith; each = All-nil IsName; ascending = tt }
 
 -- The operand of a decoded operation is a name.
-abbrev pub Fits : Option NameOperation → Type 0
+abbrev pub Fits : Option NamesOperation → Type 0
 Fits (Some (Insert name)) = IsName name
 Fits (Some (Remove name)) = IsName name
 Fits (Some (Has name)) = IsName name
@@ -95,15 +95,15 @@ length-with_name name names =
     let i = below name names in
     omega (arith, length-append (take i names) (name ∷ drop i names), length-take i names, length-drop i names)
 
-length-without : (name : List ℕ) (names : List (List ℕ)) → length (without name names) ≤ length names
-length-without name [] = omega arith
-length-without name (x ∷ xs) =
-    let others = length-without name xs in
-    cond_both (not (same name x)) (x ∷ without name xs) (without name xs) (λ ys. length ys ≤ length (x ∷ xs)) (λ _. omega arith) (λ _. omega arith)
+length-without_name : (name : List ℕ) (names : List (List ℕ)) → length (without_name name names) ≤ length names
+length-without_name name [] = omega arith
+length-without_name name (x ∷ xs) =
+    let others = length-without_name name xs in
+    cond_both (not (same name x)) (x ∷ without_name name xs) (without_name name xs) (λ ys. length ys ≤ length (x ∷ xs)) (λ _. omega arith) (λ _. omega arith)
 
 -- A set with room is still a set after a name is inserted.
 pub IsSet-with_name : (name : List ℕ) (names : List (List ℕ)) → IsName name → has name names ≡ false
-    → length names < most → IsSet names → IsSet (with_name name names)
+    → length names < max_names → IsSet names → IsSet (with_name name names)
 IsSet-with_name name names fits missing room is = record {
   few = omega (arith, length-with_name name names);
   each = All-insert IsName names (below name names) name is.each fits;
@@ -111,19 +111,19 @@ IsSet-with_name name names fits missing room is = record {
 }
 
 -- A set is still a set after a name is removed.
-pub IsSet-without : (name : List ℕ) (names : List (List ℕ)) → IsSet names → IsSet (without name names)
-IsSet-without name names is = record {
-  few = omega (arith, length-without name names, is.few);
+pub IsSet-without_name : (name : List ℕ) (names : List (List ℕ)) → IsSet names → IsSet (without_name name names)
+IsSet-without_name name names is = record {
+  few = omega (arith, length-without_name name names, is.few);
   each = All-filter (λ other. not (same name other)) IsName names is.each;
   ascending = IsStrictlySortedBy-filter by_bytes (λ other. not (same name other)) names is.ascending;
 }
 
-after_kept : (names : List (List ℕ)) (op : Option NameOperation) → Fits op → IsSet names → IsSet (after names op)
+after_kept : (names : List (List ℕ)) (op : Option NamesOperation) → Fits op → IsSet names → IsSet (after names op)
 after_kept names (Some (Insert name)) fits is =
     cond_both (has name names) _ _ IsSet (λ _. is)
-    (λ missing. cond_both (length names == most) _ _ IsSet (λ _. is) (λ room. IsSet-with_name name names fits missing
+    (λ missing. cond_both (length names == max_names) _ _ IsSet (λ _. is) (λ room. IsSet-with_name name names fits missing
     (omega (arith, is.few, eqb-false _ _ room)) is))
-after_kept names (Some (Remove name)) fits is = IsSet-without name names is
+after_kept names (Some (Remove name)) fits is = IsSet-without_name name names is
 after_kept names (Some (Has name)) fits is = is
 after_kept names None fits is = is
 
@@ -131,10 +131,10 @@ after_kept names None fits is = is
 pub next_kept : (names : List (List ℕ)) (op : List ℕ) → AreBytes op → IsSet names → IsSet (next names op)
 next_kept names op are is = after_kept names (decoding op) (decoding_fits op are) is
 
-reply_fits : (names : List (List ℕ)) (op : Option NameOperation) → IsReply (reply_to names op)
+reply_fits : (names : List (List ℕ)) (op : Option NamesOperation) → IsReply (reply_to names op)
 reply_fits names (Some (Insert name)) =
     cond_both (has name names) _ _ IsReply (λ _. code_fits 1 (omega arith))
-    (λ _. cond_both (length names == most) _ _ IsReply (λ _. code_fits 2 (omega arith)) (λ _. code_fits 0 (omega arith)))
+    (λ _. cond_both (length names == max_names) _ _ IsReply (λ _. code_fits 2 (omega arith)) (λ _. code_fits 0 (omega arith)))
 reply_fits names (Some (Remove name)) = cond_both (has name names) _ _ IsReply (λ _. code_fits 0 (omega arith)) (λ _. code_fits 1 (omega arith))
 reply_fits names (Some (Has name)) = cond_both (has name names) _ _ IsReply (λ _. code_fits 0 (omega arith)) (λ _. code_fits 1 (omega arith))
 reply_fits names None = code_fits 255 (omega arith)
@@ -144,7 +144,7 @@ pub replies_fit : (names : List (List ℕ)) (op : List ℕ) → AreBytes op → 
 replies_fit names op are is = reply_fits names (decoding op)
 
 -- Bytes that are no operation get the reply `FF` and change nothing.
-pub ignored : (names : List (List ℕ)) (op : List ℕ) → is_readable op ≡ false → (reply names op ≡ unreadable) × (next names op ≡ names)
+pub ignored : (names : List (List ℕ)) (op : List ℕ) → is_readable op ≡ false → (reply names op ≡ unreadable_reply) × (next names op ≡ names)
 ignored names op none = rw (none_of (decoding op) none) (refl, refl)
 
 -- The encoding of a name above the last one, followed by any bytes, is decoded to that name.
@@ -158,13 +158,13 @@ next_first last name rest is up =
     cond-true _ _ _ test ∙ ap Some front
 
 -- The encoding of ascending names above the last one is decoded to these names.
-again : (last : List ℕ) (names : List (List ℕ)) → All IsName names → AreAscending (last ∷ names) → names_of (length names) last (list_encoding names) ≡ Some names
+names_of-list_encoding : (last : List ℕ) (names : List (List ℕ)) → All IsName names → AreAscending (last ∷ names) → names_of (length names) last (list_encoding names) ≡ Some names
 unfolding names_of IsStrictlySortedBy
-again last [] each ascending = refl
-again last (x ∷ xs) each ascending =
+names_of-list_encoding last [] each ascending = refl
+names_of-list_encoding last (x ∷ xs) each ascending =
     let first : next_name last (length x ∷ (x ++ list_encoding xs)) ≡ Some x = next_first last x (list_encoding xs) (All-head IsName x xs each) ascending.0.0 in
     let rest : drop (length x) (x ++ list_encoding xs) ≡ list_encoding xs = drop_at x (list_encoding xs) (length x) refl in
-    let others : names_of (length xs) x (list_encoding xs) ≡ Some xs = again x xs (All-tail IsName x xs each) ascending.1 in
+    let others : names_of (length xs) x (list_encoding xs) ≡ Some xs = names_of-list_encoding x xs (All-tail IsName x xs each) ascending.1 in
     rw (flat_map-cons (λ (name : List ℕ). length name ∷ name) x xs, first, rest, others) refl
 
 -- A decoded name is above the last one, and the bytes begin with its encoding.
@@ -234,7 +234,7 @@ AreAscending-from_nothing names each ascending = (
 )
 
 -- Names decoded from a snapshot are a set.
-pub IsSet-names_of : (count : ℕ) (bytes : List ℕ) (names : List (List ℕ)) → count ≤ most → AreBytes bytes
+pub IsSet-names_of : (count : ℕ) (bytes : List ℕ) (names : List (List ℕ)) → count ≤ max_names → AreBytes bytes
     → names_of count [] bytes ≡ Some names → IsSet names × (length names ≡ count) × (list_encoding names ≡ bytes)
 unfolding IsStrictlySortedBy
 IsSet-names_of count bytes names few are is =
@@ -243,19 +243,19 @@ IsSet-names_of count bytes names few are is =
 
 restored : (names : List (List ℕ)) → IsSet names → set_of (snapshot_of names) ≡ Some names
 restored names is =
-    let parts = apart 2 (length names) (list_encoding names) (omega (arith, is.few)) in
+    let parts = sized_text-split 2 (length names) (list_encoding names) (omega (arith, is.few)) in
     let long : 2 ≤ length (snapshot_of names) = omega arith in
-    let few : big_number 2 (snapshot_of names) ≤ most = rw parts.0 is.few in
+    let few : big_number 2 (snapshot_of names) ≤ max_names = rw parts.0 is.few in
     let whole : names_of (big_number 2 (snapshot_of names)) [] (drop 2 (snapshot_of names)) ≡ Some names =
-    rw (parts.0, parts.1) (again [] names is.each (AreAscending-from_nothing names is.each is.ascending)) in
+    rw (parts.0, parts.1) (names_of-list_encoding [] names is.each (AreAscending-from_nothing names is.each is.ascending)) in
     cond-true _ _ _ (and_from _ _ (le-leb _ _ long) (le-leb _ _ few)) ∙ whole
 
 only : (bytes : List ℕ) (names : List (List ℕ)) → AreBytes bytes → set_of bytes ≡ Some names → IsSet names × (snapshot_of names ≡ bytes)
 only bytes names are is =
-    let g = guarded_some (nat_le 2 (length bytes) && nat_le (big_number 2 bytes) most) _ names is in
+    let g = guarded_some (nat_le 2 (length bytes) && nat_le (big_number 2 bytes) max_names) _ names is in
     let a = and_parts (nat_le 2 (length bytes)) _ g.0 in
     let read = IsSet-names_of (big_number 2 bytes) (drop 2 bytes) names (leb-true _ _ a.1) (AreBytes-drop 2 bytes are) g.1 in
-    (read.0, together 2 exact_2 bytes (leb-true _ _ a.0) are (length names) (list_encoding names) read.1 read.2)
+    (read.0, sized_text-join 2 exact_2 bytes (leb-true _ _ a.0) are (length names) (list_encoding names) read.1 read.2)
 
 -- Exactly the snapshots of sets are restored, each to its set.
 pub sets_restore : HasExactSnapshots IsSet snapshot_of set_of

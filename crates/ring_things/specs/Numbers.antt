@@ -8,16 +8,16 @@ use Rattle.std.proofs.lemmas.List.Elements.{All-take, All-drop, All-cons, All-ni
 use Rattle.std.proofs.lemmas.Nat.{be_bytes_2, be_bytes_8}
 use Rattle.byteorder.specs.Endian.{big_bytes, big_number}
 use Rattle.byteorder.specs.Numbers.{big_number-reads_back, big_from-append, big_from-lt, length-bytes_high_first}
-use Rattle.ring_object.specs.Bytes.{AreBytes, bytes_everywhere}
+use Rattle.ring_object.specs.Bytes.{AreBytes, AreBytes-get_or}
 
 -- The bytes of the numbers.
 abbrev pub list_encoding : ℕ → List ℕ → List ℕ
 list_encoding width numbers = flat_map (λ number. big_bytes width number) numbers
 
 -- The first `count` numbers of the bytes.
-unfoldable pub numbers_of : ℕ → ℕ → List ℕ → List ℕ
-numbers_of width zero bytes = []
-numbers_of width (suc count) bytes = big_number width bytes ∷ numbers_of width count (drop width bytes)
+unfoldable pub member_numbers : ℕ → ℕ → List ℕ → List ℕ
+member_numbers width zero bytes = []
+member_numbers width (suc count) bytes = big_number width bytes ∷ member_numbers width count (drop width bytes)
 
 -- The numbers fit the width.
 abbrev pub AreNumbers : ℕ → List ℕ → Type 0
@@ -25,7 +25,7 @@ AreNumbers width numbers = All (λ number. number < 256 ^ width) numbers
 
 -- A number decoded from bytes fits the width.
 pub big_number-lt : (width : ℕ) (bytes : List ℕ) → AreBytes bytes → big_number width bytes < 256 ^ width
-big_number-lt width bytes are = big_from-lt 0 width bytes (bytes_everywhere bytes are)
+big_number-lt width bytes are = big_from-lt 0 width bytes (AreBytes-get_or bytes are)
 
 -- Only the first `width` bytes matter for the number.
 pub big_number-take : (width : ℕ) (bytes : List ℕ) → width ≤ length bytes → big_number width bytes ≡ big_number width (take width bytes)
@@ -39,11 +39,11 @@ IsExact width = (bytes : List ℕ) → length bytes ≡ width → AreBytes bytes
 
 -- 8 bytes are an exact width.
 pub exact_8 : IsExact 8
-exact_8 bytes len are = be_bytes_8 bytes _ len (bytes_everywhere bytes are) (omega arith)
+exact_8 bytes len are = be_bytes_8 bytes _ len (AreBytes-get_or bytes are) (omega arith)
 
 -- 2 bytes are an exact width.
 pub exact_2 : IsExact 2
-exact_2 bytes len are = be_bytes_2 bytes _ len (bytes_everywhere bytes are) (omega arith)
+exact_2 bytes len are = be_bytes_2 bytes _ len (AreBytes-get_or bytes are) (omega arith)
 
 -- The number at the start of the bytes is encoded to their first `width` bytes.
 pub big_bytes-big_number : (width : ℕ) → IsExact width → (bytes : List ℕ) → width ≤ length bytes → AreBytes bytes
@@ -64,42 +64,42 @@ length-list_encoding width (x ∷ xs) =
     ) (omega arith)
 
 -- `count` numbers are decoded.
-pub length-numbers_of : (width count : ℕ) (bytes : List ℕ) → length (numbers_of width count bytes) ≡ count
-unfolding numbers_of
-length-numbers_of width zero bytes = refl
-length-numbers_of width (suc count) bytes = ap suc (length-numbers_of width count (drop width bytes))
+pub length-member_numbers : (width count : ℕ) (bytes : List ℕ) → length (member_numbers width count bytes) ≡ count
+unfolding member_numbers
+length-member_numbers width zero bytes = refl
+length-member_numbers width (suc count) bytes = ap suc (length-member_numbers width count (drop width bytes))
 
 -- Decoded numbers fit the width.
-pub AreNumbers-numbers_of : (width count : ℕ) (bytes : List ℕ) → AreBytes bytes → AreNumbers width (numbers_of width count bytes)
-unfolding numbers_of
-AreNumbers-numbers_of width zero bytes are = All-nil (λ number. number < 256 ^ width)
-AreNumbers-numbers_of width (suc count) bytes are =
-    All-cons (λ number. number < 256 ^ width) (big_number width bytes) (numbers_of width count (drop width bytes)) (big_number-lt width bytes are)
-    (AreNumbers-numbers_of width count (drop width bytes) (All-drop (λ byte. byte < 256) width bytes are))
+pub AreNumbers-member_numbers : (width count : ℕ) (bytes : List ℕ) → AreBytes bytes → AreNumbers width (member_numbers width count bytes)
+unfolding member_numbers
+AreNumbers-member_numbers width zero bytes are = All-nil (λ number. number < 256 ^ width)
+AreNumbers-member_numbers width (suc count) bytes are =
+    All-cons (λ number. number < 256 ^ width) (big_number width bytes) (member_numbers width count (drop width bytes)) (big_number-lt width bytes are)
+    (AreNumbers-member_numbers width count (drop width bytes) (All-drop (λ byte. byte < 256) width bytes are))
 
 -- Encoded numbers are decoded to themselves.
-pub numbers_of-list_encoding : (width : ℕ) (numbers : List ℕ) → AreNumbers width numbers → numbers_of width (length numbers) (list_encoding width numbers) ≡ numbers
-unfolding numbers_of
-numbers_of-list_encoding width [] are = refl
-numbers_of-list_encoding width (x ∷ xs) are =
+pub member_numbers-list_encoding : (width : ℕ) (numbers : List ℕ) → AreNumbers width numbers → member_numbers width (length numbers) (list_encoding width numbers) ≡ numbers
+unfolding member_numbers
+member_numbers-list_encoding width [] are = refl
+member_numbers-list_encoding width (x ∷ xs) are =
     let rest : drop width (big_bytes width x ++ list_encoding width xs) ≡ list_encoding width xs = drop_at (big_bytes width x)
     (list_encoding width xs) width (length-bytes_high_first width x) in
     let first : big_number width (big_bytes width x ++ list_encoding width xs) ≡ x = big_number-reads_back width x
     (list_encoding width xs) (All-head (λ number. number < 256 ^ width) x xs are) in
-    let others : numbers_of width (length xs) (list_encoding width xs) ≡ xs = numbers_of-list_encoding width xs (All-tail (λ number. number < 256 ^ width) x xs are) in
+    let others : member_numbers width (length xs) (list_encoding width xs) ≡ xs = member_numbers-list_encoding width xs (All-tail (λ number. number < 256 ^ width) x xs are) in
     rw (flat_map-cons (λ number. big_bytes width number) x xs, first, rest, others) refl
 
 -- Decoded numbers are encoded to the bytes.
-pub list_encoding-numbers_of : (width : ℕ) → IsExact width → (count : ℕ) (bytes : List ℕ) → length bytes ≡ width * count
-    → AreBytes bytes → list_encoding width (numbers_of width count bytes) ≡ bytes
-unfolding numbers_of
-list_encoding-numbers_of width exact zero bytes len are = sym (nil_from_length bytes (omega arith))
-list_encoding-numbers_of width exact (suc count) bytes len are =
-    let others = list_encoding-numbers_of width exact count (drop width bytes) (omega (arith, length-drop width bytes))
+pub list_encoding-member_numbers : (width : ℕ) → IsExact width → (count : ℕ) (bytes : List ℕ) → length bytes ≡ width * count
+    → AreBytes bytes → list_encoding width (member_numbers width count bytes) ≡ bytes
+unfolding member_numbers
+list_encoding-member_numbers width exact zero bytes len are = sym (nil_from_length bytes (omega arith))
+list_encoding-member_numbers width exact (suc count) bytes len are =
+    let others = list_encoding-member_numbers width exact count (drop width bytes) (omega (arith, length-drop width bytes))
     (All-drop (λ byte. byte < 256) width bytes are) in
     rw (
       flat_map-cons (λ number. big_bytes width number) (big_number width bytes)
-          (numbers_of width count (drop width bytes)),
+          (member_numbers width count (drop width bytes)),
       others,
     ) (big_bytes-big_number width exact bytes (omega arith) are)
 
@@ -109,13 +109,13 @@ big_number-whole width number fits =
     ap (big_number width) (sym (append-nil (big_bytes width number))) ∙ big_number-reads_back width number [] fits
 
 -- An encoded number and the text after it are recovered from their concatenation.
-pub apart : (width number : ℕ) (text : List ℕ) → number < 256 ^ width →
+pub sized_text-split : (width number : ℕ) (text : List ℕ) → number < 256 ^ width →
     (big_number width (big_bytes width number ++ text) ≡ number) × (drop width (big_bytes width number ++ text) ≡ text)
-apart width number text fits =
+sized_text-split width number text fits =
     (big_number-reads_back width number text fits, drop_at (big_bytes width number) text width (length-bytes_high_first width number))
 
 -- A decoded number and the rest concatenate to the bytes.
-pub together : (width : ℕ) → IsExact width → (bytes : List ℕ) → width ≤ length bytes → AreBytes bytes → (number : ℕ) (text : List ℕ) →
+pub sized_text-join : (width : ℕ) → IsExact width → (bytes : List ℕ) → width ≤ length bytes → AreBytes bytes → (number : ℕ) (text : List ℕ) →
     number ≡ big_number width bytes → text ≡ drop width bytes → big_bytes width number ++ text ≡ bytes
-together width exact bytes long are number text is_number is_text =
+sized_text-join width exact bytes long are number text is_number is_text =
     rw (is_number, is_text) (big_bytes-big_number width exact bytes long are)

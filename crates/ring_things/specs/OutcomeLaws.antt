@@ -10,7 +10,7 @@ use Rattle.ring_object.specs.Bytes.{AreBytes}
 use Rattle.ring_base.proofs.Cases.{and_then_some}
 use Rattle.ring_things.specs.Numbers.{big_number-whole, exact_8}
 use Rattle.ring_things.specs.Outcome.{code_of, outcome_of, value_bytes, value_in, encoding, decoding, ValueFits}
-use Rattle.ring_things.specs.Replies.{AreBytes-rest}
+use Rattle.ring_things.specs.ReplyBytes.{AreBytes-rest}
 use Rattle.ring_things.specs.declared.replies.Outcome.{Outcome}
 use Rattle.ring_things.specs.declared.replies.Outcome.TheVariants.{Done, NotDone, Full, Unreadable}
 use Rattle.ring_things.specs.declared.replies.ReplyParts.{ReplyParts}

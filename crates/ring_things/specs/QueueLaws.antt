@@ -9,14 +9,14 @@ use Rattle.std.proofs.lemmas.List.Elements.{All-nil, All-push, All-drop}
 use Rattle.byteorder.specs.Endian.{big_number}
 use Rattle.ring_base.proofs.Cases.{none_of}
 use Rattle.ring_object.specs.Bytes.{AreBytes}
-use Rattle.ring_object.specs.Operations.{IsReply, unreadable}
+use Rattle.ring_object.specs.Operations.{IsReply, unreadable_reply}
 use Rattle.ring_object.specs.Snapshots.{HasExactSnapshots}
 use Rattle.ring_base.proofs.Cases.{guarded_some}
-use Rattle.ring_things.specs.Numbers.{list_encoding, numbers_of, big_number-lt, exact_2, exact_8, apart, together}
-use Rattle.ring_things.specs.Numbers.{length-list_encoding, length-numbers_of, AreNumbers-numbers_of, numbers_of-list_encoding}
-use Rattle.ring_things.specs.Numbers.{list_encoding-numbers_of}
-use Rattle.ring_things.specs.Replies.{code_fits, code_and_value_fits, AreBytes-rest, AreBytes-drop}
-use Rattle.ring_things.specs.Queue.{most, IsQueue, decoding, is_readable, reply, next, reply_to, after, snapshot_of, is_snapshot, queue_of}
+use Rattle.ring_things.specs.Numbers.{list_encoding, member_numbers, big_number-lt, exact_2, exact_8, sized_text-split, sized_text-join}
+use Rattle.ring_things.specs.Numbers.{length-list_encoding, length-member_numbers, AreNumbers-member_numbers, member_numbers-list_encoding}
+use Rattle.ring_things.specs.Numbers.{list_encoding-member_numbers}
+use Rattle.ring_things.specs.ReplyBytes.{code_fits, code_and_value_fits, AreBytes-rest, AreBytes-drop}
+use Rattle.ring_things.specs.Queue.{max_queue_values, IsQueue, decoding, is_readable, reply, next, reply_to, after, snapshot_of, is_snapshot, queue_of}
 use Rattle.ring_things.specs.declared.queue.QueueOperation.{QueueOperation}
 use Rattle.ring_things.specs.declared.queue.QueueOperation.TheVariants.{Push, Pop, Count}
 
@@ -38,7 +38,7 @@ decoding_fits (code ∷ rest) are =
 
 after_kept : (items : List ℕ) (op : Option QueueOperation) → Fits op → IsQueue items → IsQueue (after items op)
 after_kept items (Some (Push value)) fits is =
-    cond_both (length items == most) _ _ IsQueue (λ _. is) (λ room. record {
+    cond_both (length items == max_queue_values) _ _ IsQueue (λ _. is) (λ room. record {
       few = omega (arith, length_push items value, is.few, eqb-false _ _ room);
       numbers = All-push (λ number. number < 256 ^ 8) items value is.numbers fits;
     })
@@ -54,7 +54,7 @@ pub next_kept : (items op : List ℕ) → AreBytes op → IsQueue items → IsQu
 next_kept items op are is = after_kept items (decoding op) (decoding_fits op are) is
 
 reply_fits : (items : List ℕ) (op : Option QueueOperation) → IsReply (reply_to items op)
-reply_fits items (Some (Push value)) = cond_both (length items == most) _ _ IsReply (λ _. code_fits 1 (omega arith)) (λ _. code_fits 0 (omega arith))
+reply_fits items (Some (Push value)) = cond_both (length items == max_queue_values) _ _ IsReply (λ _. code_fits 1 (omega arith)) (λ _. code_fits 0 (omega arith))
 reply_fits [] (Some Pop) = code_fits 1 (omega arith)
 reply_fits (item ∷ items) (Some Pop) = code_and_value_fits 0 item (omega arith)
 reply_fits items (Some Count) = code_and_value_fits 0 (length items) (omega arith)
@@ -65,38 +65,38 @@ pub replies_fit : (items op : List ℕ) → AreBytes op → IsQueue items → Is
 replies_fit items op are is = reply_fits items (decoding op)
 
 -- Bytes that are no operation get the reply `FF` and change nothing.
-pub ignored : (items op : List ℕ) → is_readable op ≡ false → (reply items op ≡ unreadable) × (next items op ≡ items)
+pub ignored : (items op : List ℕ) → is_readable op ≡ false → (reply items op ≡ unreadable_reply) × (next items op ≡ items)
 ignored items op none = rw (none_of (decoding op) none) (refl, refl)
 
 -- Values decoded from a snapshot are a queue.
-pub IsQueue-numbers_of : (count : ℕ) (bytes : List ℕ) → count ≤ most → AreBytes bytes → IsQueue (numbers_of 8 count bytes)
-IsQueue-numbers_of count bytes few are = record { few = omega (arith, length-numbers_of 8 count bytes); numbers = AreNumbers-numbers_of 8 count bytes are }
+pub IsQueue-member_numbers : (count : ℕ) (bytes : List ℕ) → count ≤ max_queue_values → AreBytes bytes → IsQueue (member_numbers 8 count bytes)
+IsQueue-member_numbers count bytes few are = record { few = omega (arith, length-member_numbers 8 count bytes); numbers = AreNumbers-member_numbers 8 count bytes are }
 
 restored : (items : List ℕ) → IsQueue items → queue_of (snapshot_of items) ≡ Some items
 restored items is =
-    let parts = apart 2 (length items) (list_encoding 8 items) (omega (arith, is.few)) in
+    let parts = sized_text-split 2 (length items) (list_encoding 8 items) (omega (arith, is.few)) in
     let long : 2 ≤ length (snapshot_of items) = omega arith in
     let size : length (drop 2 (snapshot_of items)) ≡ 8 * big_number 2 (snapshot_of items) = rw (parts.0, parts.1) (length-list_encoding 8 items) in
-    let few : big_number 2 (snapshot_of items) ≤ most = rw parts.0 is.few in
+    let few : big_number 2 (snapshot_of items) ≤ max_queue_values = rw parts.0 is.few in
     let holds : is_snapshot (snapshot_of items) ≡ true = and_from _ _ (le-leb _ _ long) (and_from _ _ (le-leb _ _ few) (eq-eqb _ _ size)) in
-    let whole : numbers_of 8 (big_number 2 (snapshot_of items)) (drop 2 (snapshot_of items)) ≡ items =
-    rw (parts.0, parts.1) (numbers_of-list_encoding 8 items is.numbers) in
+    let whole : member_numbers 8 (big_number 2 (snapshot_of items)) (drop 2 (snapshot_of items)) ≡ items =
+    rw (parts.0, parts.1) (member_numbers-list_encoding 8 items is.numbers) in
     cond-true (is_snapshot (snapshot_of items)) _ _ holds ∙ ap Some whole
 
 only : (bytes items : List ℕ) → AreBytes bytes → queue_of bytes ≡ Some items → IsQueue items × (snapshot_of items ≡ bytes)
 only bytes items are is =
     let count = big_number 2 bytes in
     let rest = drop 2 bytes in
-    let g = guarded_some (is_snapshot bytes) (Some (numbers_of 8 count rest)) items is in
+    let g = guarded_some (is_snapshot bytes) (Some (member_numbers 8 count rest)) items is in
     let a = and_parts (nat_le 2 (length bytes)) _ g.0 in
-    let b = and_parts (nat_le count most) _ a.1 in
-    let len : length (numbers_of 8 count rest) ≡ count = length-numbers_of 8 count rest in
-    let values : list_encoding 8 (numbers_of 8 count rest) ≡ rest = list_encoding-numbers_of 8 exact_8 count rest (eqb-true _ _ b.1) (AreBytes-drop 2 bytes are) in
+    let b = and_parts (nat_le count max_queue_values) _ a.1 in
+    let len : length (member_numbers 8 count rest) ≡ count = length-member_numbers 8 count rest in
+    let values : list_encoding 8 (member_numbers 8 count rest) ≡ rest = list_encoding-member_numbers 8 exact_8 count rest (eqb-true _ _ b.1) (AreBytes-drop 2 bytes are) in
     let P : List ℕ → Type 0 = λ xs. IsQueue xs × (snapshot_of xs ≡ bytes) in
     subst P (same_Some _ _ g.1) (
-      IsQueue-numbers_of count rest (leb-true _ _ b.0) (AreBytes-drop 2 bytes are),
-      together 2 exact_2 bytes (leb-true _ _ a.0) are (length (numbers_of 8 count rest))
-          (list_encoding 8 (numbers_of 8 count rest)) len values,
+      IsQueue-member_numbers count rest (leb-true _ _ b.0) (AreBytes-drop 2 bytes are),
+      sized_text-join 2 exact_2 bytes (leb-true _ _ a.0) are (length (member_numbers 8 count rest))
+          (list_encoding 8 (member_numbers 8 count rest)) len values,
     )
 
 -- Exactly the snapshots of queues are restored, each to its queue.

@@ -3,7 +3,7 @@
 -- Formats: Operations and replies
 use Rattle.std.specs.Prelude.{ℕ, Bool, ◌==◌, ◌&&◌, if◌then◌else◌, List, [], ◌∷◌, ◌++◌, length, drop, slice_index, slice_set, Option, Some, None, is_some}
 use Rattle.byteorder.specs.Endian.{big_bytes, big_number}
-use Rattle.ring_object.specs.Operations.{unreadable}
+use Rattle.ring_object.specs.Operations.{unreadable_reply}
 use Rattle.ring_things.specs.declared.registers.RegisterOperation.{RegisterOperation}
 use Rattle.ring_things.specs.declared.registers.RegisterOperation.TheVariants.{Get, Put, CompareAndSet}
 
@@ -33,7 +33,7 @@ reply_to values (Some (Get key)) = 0 ∷ big_bytes 8 (slice_index values key)
 reply_to values (Some (Put key value)) = 0 ∷ []
 reply_to values (Some (CompareAndSet key expected new)) =
     if slice_index values key == expected then 0 ∷ [] else 1 ∷ big_bytes 8 (slice_index values key)
-reply_to values None = unreadable
+reply_to values None = unreadable_reply
 
 -- The values after a decoded operation. A put stores its value, and a compare-and-set does so if the value there is the
 -- expected one; otherwise nothing changes.

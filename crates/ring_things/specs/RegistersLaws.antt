@@ -4,9 +4,9 @@ use Rattle.std.proofs.Common.{◌≡◌, ℕ, ◌^◌, ◌<◌, false, ◌==◌,
 use Rattle.std.proofs.lemmas.Bool.{cond_both}
 use Rattle.ring_base.proofs.Cases.{none_of}
 use Rattle.ring_object.specs.Bytes.{AreBytes}
-use Rattle.ring_object.specs.Operations.{IsReply, unreadable}
+use Rattle.ring_object.specs.Operations.{IsReply, unreadable_reply}
 use Rattle.ring_things.specs.Numbers.{big_number-lt}
-use Rattle.ring_things.specs.Replies.{code_fits, code_and_value_fits, AreBytes-rest, AreBytes-drop}
+use Rattle.ring_things.specs.ReplyBytes.{code_fits, code_and_value_fits, AreBytes-rest, AreBytes-drop}
 use Rattle.ring_things.specs.Table.{IsTable, IsTable-set, keys}
 use Rattle.ring_things.specs.Registers.{decoding, is_readable, reply, next, reply_to, after}
 use Rattle.ring_things.specs.declared.registers.RegisterOperation.{RegisterOperation}
@@ -51,5 +51,5 @@ pub replies_fit : (values op : List ℕ) → AreBytes op → IsTable keys values
 replies_fit values op are is = reply_fits values (decoding op)
 
 -- Bytes that are no operation get the reply `FF` and change nothing.
-pub ignored : (values op : List ℕ) → is_readable op ≡ false → (reply values op ≡ unreadable) × (next values op ≡ values)
+pub ignored : (values op : List ℕ) → is_readable op ≡ false → (reply values op ≡ unreadable_reply) × (next values op ≡ values)
 ignored values op none = rw (none_of (decoding op) none) (refl, refl)

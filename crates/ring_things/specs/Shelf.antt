@@ -4,13 +4,13 @@
 use Rattle.std.specs.Prelude.{ℕ, Bool, false, ◌==◌, nat_le, ◌&&◌, if◌then◌else◌, List, [], ◌∷◌, ◌++◌, length, take, drop, Option, Some, None}
 use Rattle.std.specs.Option.{option_and_then}
 use Rattle.byteorder.specs.Endian.{big_number}
-use Rattle.ring_object.specs.Operations.{unreadable}
+use Rattle.ring_object.specs.Operations.{unreadable_reply}
 use Rattle.ring_object.specs.Sized.{sized}
-use Rattle.ring_things.specs.declared.shelf.ShelfPlace.{ShelfPlace}
-use Rattle.ring_things.specs.declared.shelf.ShelfPlace.TheVariants.{First, Second, Third, Fourth}
+use Rattle.ring_things.specs.declared.shelf.ShelfPosition.{ShelfPosition}
+use Rattle.ring_things.specs.declared.shelf.ShelfPosition.TheVariants.{First, Second, Third, Fourth}
 
 -- The number of the object at a position.
-abbrev pub number_of : ShelfPlace → ℕ
+abbrev pub number_of : ShelfPosition → ℕ
 number_of First = 0
 number_of Second = 1
 number_of Third = 2
@@ -25,13 +25,13 @@ shelf_readable p q r s (which ∷ op) =
 -- The reply of the object with this number to the rest; `FF` if there is no such object.
 abbrev pub shelf_reply : {P Q R S : Type 0} → (P → List ℕ → List ℕ) → (Q → List ℕ → List ℕ) → (R → List ℕ → List ℕ)
     → (S → List ℕ → List ℕ) → P × Q × R × S → List ℕ → List ℕ
-shelf_reply p q r s objects [] = unreadable
+shelf_reply p q r s objects [] = unreadable_reply
 shelf_reply p q r s objects (which ∷ op) =
     if which == 0 then p objects.0 op
     else if which == 1 then q objects.1 op
     else if which == 2 then r objects.2 op
     else if which == 3 then s objects.3 op
-    else unreadable
+    else unreadable_reply
 
 -- The objects after the bytes of an operation: only the object with this number changes.
 abbrev pub shelf_next : {P Q R S : Type 0} → (P → List ℕ → P) → (Q → List ℕ → Q) → (R → List ℕ → R) → (S → List ℕ → S) → P × Q × R × S → List ℕ → P × Q × R × S

@@ -9,12 +9,12 @@ use Rattle.std.proofs.lemmas.Option.{same_Some}
 use Rattle.byteorder.specs.Endian.{big_bytes, big_number}
 use Rattle.byteorder.specs.Numbers.{big_number-reads_back, length-bytes_high_first}
 use Rattle.ring_object.specs.Bytes.{AreBytes}
-use Rattle.ring_object.specs.Operations.{IsReply, unreadable}
+use Rattle.ring_object.specs.Operations.{IsReply, unreadable_reply}
 use Rattle.ring_object.specs.Sized.{sized}
 use Rattle.ring_object.specs.Snapshots.{HasExactSnapshots}
 use Rattle.ring_base.proofs.Cases.{guarded_some, and_then_some}
 use Rattle.ring_things.specs.Numbers.{IsExact, exact_8, big_bytes-big_number}
-use Rattle.ring_things.specs.Replies.{code_fits, AreBytes-rest, AreBytes-drop, AreBytes-take}
+use Rattle.ring_things.specs.ReplyBytes.{code_fits, AreBytes-rest, AreBytes-drop, AreBytes-take}
 use Rattle.ring_things.specs.Shelf.{shelf_readable, shelf_reply, shelf_next, first_text, texts_of}
 use Rattle.ring_things.specs.Shelf.{shelf_snapshot, both_of, four_of, objects_of, shelf_of}
 
@@ -32,7 +32,7 @@ Replies {O} IsContent reply = (o : O) (op : List ℕ) → AreBytes op → IsCont
 
 -- Bytes that are no operation get the reply `FF` and change nothing.
 abbrev Ignores : {O : Type 0} → (List ℕ → Bool) → (O → List ℕ → List ℕ) → (O → List ℕ → O) → Type 0
-Ignores {O} is_readable reply next = (o : O) (op : List ℕ) → is_readable op ≡ false → (reply o op ≡ unreadable) × (next o op ≡ o)
+Ignores {O} is_readable reply next = (o : O) (op : List ℕ) → is_readable op ≡ false → (reply o op ≡ unreadable_reply) × (next o op ≡ o)
 
 module _ {P Q R S : Type 0} (IsP : P → Type 0) (IsQ : Q → Type 0) (IsR : R → Type 0) (IsS : S → Type 0) where
   -- Every operation leads from a valid content of the shelf to a valid content, if that holds of each object.
@@ -61,10 +61,10 @@ module _ {P Q R S : Type 0} (IsP : P → Type 0) (IsQ : Q → Type 0) (IsR : R �
 
 -- A choice among four objects ignores what it can't read, if each object does.
 ignored_by : {O : Type 0} (a b c d p q r s : Bool) (reply_p reply_q reply_r reply_s : List ℕ) (next_p next_q next_r next_s o : O) →
-    (p ≡ false → (reply_p ≡ unreadable) × (next_p ≡ o)) → (q ≡ false → (reply_q ≡ unreadable) × (next_q ≡ o)) →
-    (r ≡ false → (reply_r ≡ unreadable) × (next_r ≡ o)) → (s ≡ false → (reply_s ≡ unreadable) × (next_s ≡ o)) →
+    (p ≡ false → (reply_p ≡ unreadable_reply) × (next_p ≡ o)) → (q ≡ false → (reply_q ≡ unreadable_reply) × (next_q ≡ o)) →
+    (r ≡ false → (reply_r ≡ unreadable_reply) × (next_r ≡ o)) → (s ≡ false → (reply_s ≡ unreadable_reply) × (next_s ≡ o)) →
     (if a then p else if b then q else if c then r else if d then s else false) ≡ false →
-    ((if a then reply_p else if b then reply_q else if c then reply_r else if d then reply_s else unreadable) ≡ unreadable)
+    ((if a then reply_p else if b then reply_q else if c then reply_r else if d then reply_s else unreadable_reply) ≡ unreadable_reply)
     × ((if a then next_p else if b then next_q else if c then next_r else if d then next_s else o) ≡ o)
 ignored_by true b c d p q r s reply_p reply_q reply_r reply_s next_p next_q next_r next_s o ip iq ir is none = ip none
 ignored_by false true c d p q r s reply_p reply_q reply_r reply_s next_p next_q next_r next_s o ip iq ir is none = iq none
@@ -78,7 +78,7 @@ module _ {P Q R S : Type 0} (rp : P → List ℕ → List ℕ) (rq : Q → List 
   -- The shelf ignores bytes that are no operation, if each object does.
   pub shelf_ignores : (p q r s : List ℕ → Bool) → Ignores p rp np → Ignores q rq nq → Ignores r rr nr → Ignores s rs ns →
       (objects : P × Q × R × S) (op : List ℕ) → shelf_readable p q r s op ≡ false
-      → (shelf_reply rp rq rr rs objects op ≡ unreadable) × (shelf_next np nq nr ns objects op ≡ objects)
+      → (shelf_reply rp rq rr rs objects op ≡ unreadable_reply) × (shelf_next np nq nr ns objects op ≡ objects)
   shelf_ignores p q r s ip iq ir is objects [] none = (refl, refl)
   shelf_ignores p q r s ip iq ir is objects (which ∷ op) none =
       ignored_by (which == 0) (which == 1) (which == 2) (which == 3) (p op) (q op) (r op) (s op) (rp objects.0 op)

@@ -4,9 +4,9 @@ use Rattle.std.proofs.Common.{◌≡◌, ℕ, ◌<◌, Bool, false, List, ◌∷
 use Rattle.std.specs.Option.{option_map}
 use Rattle.ring_base.proofs.Cases.{none_of}
 use Rattle.ring_object.specs.Bytes.{AreBytes}
-use Rattle.ring_object.specs.Operations.{IsReply, Sequential, unreadable}
+use Rattle.ring_object.specs.Operations.{IsReply, Sequential, unreadable_reply}
 use Rattle.ring_things.specs.Outcome.{code_of, encoding, value_bytes}
-use Rattle.ring_things.specs.Replies.{code_fits, code_and_value_fits}
+use Rattle.ring_things.specs.ReplyBytes.{code_fits, code_and_value_fits}
 pub use Rattle.ring_things.specs.declared.replies.Outcome.{Outcome}
 pub use Rattle.ring_things.specs.declared.replies.Outcome.TheVariants.{Done, NotDone, Full, Unreadable}
 pub use Rattle.ring_things.specs.declared.replies.ReplyParts.{ReplyParts}
@@ -21,13 +21,13 @@ abbrev pub done_with : ℕ → ReplyParts
 done_with value = record { outcome = Done; value = Some value }
 
 -- The content didn't allow the operation, and the reply has a value.
-abbrev pub refused_with : ℕ → ReplyParts
-refused_with value = record { outcome = NotDone; value = Some value }
+abbrev pub not_done_with : ℕ → ReplyParts
+not_done_with value = record { outcome = NotDone; value = Some value }
 
 -- The bytes of a reply; the byte `FF` for an operation that couldn't be decoded.
 abbrev pub replied : Option ReplyParts → List ℕ
 replied (Some reply) = encoding reply
-replied None = unreadable
+replied None = unreadable_reply
 
 -- The content after a decoded operation; unchanged if none was decoded.
 abbrev pub after_read : {C T : Type 0} → (C → T → C) → C → Option T → C
@@ -70,7 +70,7 @@ typed_replies IsContent decoding reply_to content bytes are is = replied_fits (o
 -- Bytes that are no operation get the reply `FF` and change nothing.
 pub typed_ignores : {C T : Type 0} (decoding : List ℕ → Option T) (reply_to : C → T → ReplyParts) (after : C → T → C)
     (content : C) (bytes : List ℕ) → is_read decoding bytes ≡ false →
-    (replied (option_map (reply_to content) (decoding bytes)) ≡ unreadable) × (after_read after content (decoding bytes) ≡ content)
+    (replied (option_map (reply_to content) (decoding bytes)) ≡ unreadable_reply) × (after_read after content (decoding bytes) ≡ content)
 typed_ignores decoding reply_to after content bytes none = rw (none_of (decoding bytes) none) (refl, refl)
 
 kept : {C T : Type 0} (IsContent : C → Type 0) (after : C → T → C) (content : C) (found : Option T)

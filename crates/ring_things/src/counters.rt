@@ -7,7 +7,7 @@ ghost use Rattle.std.specs.Prelude.{◌≡◌, Some};
 ghost use Rattle.ring_things.specs.Counters.{decoding, encoding};
 
 use crate::operations::{Operation, key_operation, key_value_operation};
-use crate::replies::{Outcome, reply, reply_with};
+use crate::replies::{Outcome, outcome_reply, outcome_reply_with};
 use crate::table::Table;
 use byteorder::{BigEndian, ByteOrder};
 use ring_base::Fault;
@@ -70,7 +70,7 @@ impl<A: Allocator + Copy + Drop> Object for Counters<A> {
     }
 
     fn apply(&mut self, op: &[u8]) -> Result<Reply, Fault> {
-        Ok(match CounterOperation::read(op) {
+        Ok(match CounterOperation::decode_counter_operation(op) {
             Some(CounterOperation::Add(key, amount)) => match self
                 .counts
                 .get(key)
@@ -78,12 +78,15 @@ impl<A: Allocator + Copy + Drop> Object for Counters<A> {
             {
                 Some(count) => {
                     self.counts.set(key, count);
-                    reply_with(Outcome::Done, count)
+                    outcome_reply_with(Outcome::Done, count)
                 }
-                None => reply(Outcome::NotDone),
+                None => outcome_reply(Outcome::NotDone),
             },
-            Some(CounterOperation::Read(key)) => reply_with(Outcome::Done, self.counts.get(key)),
-            None => reply(Outcome::Unreadable),
+            Some(CounterOperation::Read(key)) => outcome_reply_with(
+                Outcome::Done,
+                self.counts.get(key),
+            ),
+            None => outcome_reply(Outcome::Unreadable),
         })
     }
 
@@ -136,7 +139,7 @@ enum CounterOperation {
 
 impl CounterOperation {
     /// Decodes an operation of counters, or returns `None` for bytes that aren't one.
-    fn read(op: &[u8]) -> Option<CounterOperation>
+    fn decode_counter_operation(op: &[u8]) -> Option<CounterOperation>
         ensures { result ≡ decoding op.now }
     {
         let [code, key, rest @ ..] = op else {

@@ -10,9 +10,9 @@
 #![tactic(auto)]
 
 mod counters;
-mod keyed;
+mod encoded_numbers;
+mod keyed_operation;
 mod names;
-mod numbers;
 mod operations;
 mod queue;
 mod registers;
@@ -22,12 +22,12 @@ mod table;
 mod typed_replies;
 
 pub use counters::Counters;
-pub use keyed::KeyedOperation;
+pub use keyed_operation::KeyedOperation;
 pub use names::Names;
 pub use operations::{Operation, ShelfOperation};
 pub use queue::Queue;
 pub use registers::Registers;
-pub use replies::{Outcome, ReplyParts, reply, reply_with};
-pub use shelf::{Shelf, ShelfPlace, StandardObjects};
+pub use replies::{Outcome, ReplyParts, outcome_reply, outcome_reply_with};
+pub use shelf::{Shelf, ShelfPosition, StandardObjects};
 pub use table::Table;
-pub use typed_replies::{done, done_with, refused_with, reply_of};
+pub use typed_replies::{done, done_with, not_done_with, reply_of};

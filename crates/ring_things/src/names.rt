@@ -6,12 +6,12 @@
 ghost use Rattle.std.specs.Prelude.{◌≡◌, ◌<◌, ◌≤◌, true, suc, [], ◌∷◌, ◌++◌, length, take, drop, All, vec_len};
 ghost use Rattle.std.specs.Prelude.{Some, is_some, IfSome, IfOk, IfErr, OnOk, OnErr};
 ghost use Rattle.std.specs.Ordering.{is_lt};
-ghost use Rattle.ring_things.specs.Names.{most, decoding, encoding, by_bytes, AreAscending, IsName, IsFound, IsMissing};
+ghost use Rattle.ring_things.specs.Names.{max_names, decoding, encoding, by_bytes, AreAscending, IsName, IsFound, IsMissing};
 ghost use Rattle.ring_things.specs.Names.{next_name as name_at, names_of, snapshot_of};
 ghost use Rattle.ring_things.specs.NamesLaws.{Fits};
 
-use crate::operations::{Operation, with_head_byte};
-use crate::replies::{Outcome, reply};
+use crate::operations::{Operation, prefixed_bytes};
+use crate::replies::{Outcome, outcome_reply};
 use byteorder::{BigEndian, ByteOrder};
 use ring_base::Fault;
 use ring_object::{Object, Reply, ShortBytes};
@@ -88,13 +88,13 @@ impl<A: Allocator + Copy + Drop> Object for Names<A> {
     }
 
     fn apply(&mut self, op: &[u8]) -> Result<Reply, Fault> {
-        let Some(operation) = NameOperation::read(op) else {
-            return Ok(reply(Outcome::Unreadable));
+        let Some(operation) = NamesOperation::decode_names_operation(op) else {
+            return Ok(outcome_reply(Outcome::Unreadable));
         };
         match operation {
-            NameOperation::Insert(name) => self.insert_name(name),
-            NameOperation::Remove(name) => Ok(self.remove_name(&name)),
-            NameOperation::Has(name) => Ok(self.reply_of(&name)),
+            NamesOperation::Insert(name) => self.insert_name(name),
+            NamesOperation::Remove(name) => Ok(self.remove_name(&name)),
+            NamesOperation::Has(name) => Ok(self.membership_reply(&name)),
         }
     }
 
@@ -113,17 +113,17 @@ impl<A: Allocator + Copy + Drop> Object for Names<A> {
         }
         let count = BigEndian::read_u16(bytes) as usize;
         let rest = &bytes[2..];
-        if count > MAX_NAMES || !are_names(count, rest) {
+        if count > MAX_NAMES || !are_encoded_names(count, rest) {
             return Err(Fault::BadSnapshot);
         }
-        let names = read_names(alloc, count, rest)?;
+        let names = decode_names(alloc, count, rest)?;
         Ok(Names { names })
     }
 }
 
 impl<A: Allocator + Copy + Drop> Names<A> {
     ghost use Rattle.ring_things.specs.Names.{reply_to, after};
-    ghost use Rattle.ring_things.specs.declared.names.NameOperation.TheVariants.{Insert, Remove, Has};
+    ghost use Rattle.ring_things.specs.declared.names.NamesOperation.TheVariants.{Insert, Remove, Has};
 
     /// Adds the name to the set, unless it is there already or the set is full, and returns the reply.
     ///
@@ -135,14 +135,14 @@ impl<A: Allocator + Copy + Drop> Names<A> {
         ensures err { OnErr result (self.new ≡ self.old) }
         ensures refused { IfErr result (λ fault. fault ≡ Fault.Memory) }
     {
-        match place_of(self.names.as_slice(), &name) {
-            Ok(_) => Ok(reply(Outcome::NotDone)),
+        match index_of_name(self.names.as_slice(), &name) {
+            Ok(_) => Ok(outcome_reply(Outcome::NotDone)),
             Err(place) => {
                 if self.names.len() == MAX_NAMES {
-                    return Ok(reply(Outcome::Full));
+                    return Ok(outcome_reply(Outcome::Full));
                 }
                 self.names.insert(place, name)?;
-                Ok(reply(Outcome::Done))
+                Ok(outcome_reply(Outcome::Done))
             }
         }
     }
@@ -152,22 +152,22 @@ impl<A: Allocator + Copy + Drop> Names<A> {
         ensures reply { result ≡ reply_to self.old (Some (Remove name.now)) }
         ensures after { self.new ≡ after self.old (Some (Remove name.now)) }
     {
-        match place_of(self.names.as_slice(), name) {
+        match index_of_name(self.names.as_slice(), name) {
             Ok(place) => {
                 self.names.remove(place);
-                reply(Outcome::Done)
+                outcome_reply(Outcome::Done)
             }
-            Err(_) => reply(Outcome::NotDone),
+            Err(_) => outcome_reply(Outcome::NotDone),
         }
     }
 
     /// Returns the reply that says whether the name is in the set.
-    fn reply_of(&self, name: &Name) -> Reply
+    fn membership_reply(&self, name: &Name) -> Reply
         ensures { result ≡ reply_to self.now (Some (Has name.now)) }
     {
-        match place_of(self.names.as_slice(), name) {
-            Ok(_) => reply(Outcome::Done),
-            Err(_) => reply(Outcome::NotDone),
+        match index_of_name(self.names.as_slice(), name) {
+            Ok(_) => outcome_reply(Outcome::Done),
+            Err(_) => outcome_reply(Outcome::NotDone),
         }
     }
 }
@@ -178,7 +178,7 @@ impl<A: Allocator + Copy + Drop> Names<A> {
 ///
 /// Formats: Operations and replies
 impl Names {
-    ghost use Rattle.ring_things.specs.declared.names.NameOperation.TheVariants.{Insert, Remove, Has};
+    ghost use Rattle.ring_things.specs.declared.names.NamesOperation.TheVariants.{Insert, Remove, Has};
 
     /// Returns the operation that adds `name` to the set: `01` and the name.
     ///
@@ -195,7 +195,7 @@ impl Names {
         ensures short { OnOk result (length name.now ≤ 64) }
         ensures long { IfErr result (λ fault. (64 < length name.now) × (fault ≡ Fault.OpTooLong)) }
     {
-        named(1, name)
+        name_operation_bytes(1, name)
     }
 
     /// Returns the operation that removes `name` from the set: `02` and the name.
@@ -213,7 +213,7 @@ impl Names {
         ensures short { OnOk result (length name.now ≤ 64) }
         ensures long { IfErr result (λ fault. (64 < length name.now) × (fault ≡ Fault.OpTooLong)) }
     {
-        named(2, name)
+        name_operation_bytes(2, name)
     }
 
     /// Returns the operation that asks whether `name` is in the set: `03` and the name.
@@ -231,14 +231,14 @@ impl Names {
         ensures short { OnOk result (length name.now ≤ 64) }
         ensures long { IfErr result (λ fault. (64 < length name.now) × (fault ≡ Fault.OpTooLong)) }
     {
-        named(3, name)
+        name_operation_bytes(3, name)
     }
 }
 
 /// Returns the operation that has a code and a name.
 ///
 /// Errors: `OpTooLong` if `name` has more than 64 bytes.
-fn named(code: u8, name: &[u8]) -> Result<Operation, Fault>
+fn name_operation_bytes(code: u8, name: &[u8]) -> Result<Operation, Fault>
     ensures bytes { IfOk result (λ op. op ≡ code ∷ name.now) }
     ensures short { OnOk result (length name.now ≤ 64) }
     ensures long { IfErr result (λ fault. (64 < length name.now) × (fault ≡ Fault.OpTooLong)) }
@@ -246,19 +246,19 @@ fn named(code: u8, name: &[u8]) -> Result<Operation, Fault>
     if name.len() > MAX_NAME_LENGTH {
         return Err(Fault::OpTooLong);
     }
-    Ok(with_head_byte(code, name))
+    Ok(prefixed_bytes(code, name))
 }
 
 /// An operation of a set of names, decoded.
-enum NameOperation {
+enum NamesOperation {
     Insert(Name),
     Remove(Name),
     Has(Name),
 }
 
-impl NameOperation {
+impl NamesOperation {
     /// Decodes an operation of a set of names, or returns `None` for bytes that aren't one.
-    fn read(op: &[u8]) -> Option<NameOperation>
+    fn decode_names_operation(op: &[u8]) -> Option<NamesOperation>
         ensures value { result ≡ decoding op.now }
         ensures fits { Fits result }
     {
@@ -270,9 +270,9 @@ impl NameOperation {
         }
         let name = Name::from_slice(name);
         match *code {
-            1 => Some(NameOperation::Insert(name)),
-            2 => Some(NameOperation::Remove(name)),
-            3 => Some(NameOperation::Has(name)),
+            1 => Some(NamesOperation::Insert(name)),
+            2 => Some(NamesOperation::Remove(name)),
+            3 => Some(NamesOperation::Has(name)),
             _ => None,
         }
     }
@@ -281,7 +281,7 @@ impl NameOperation {
 /// Returns the index of `name` among ascending names, counted from 0.
 ///
 /// If it is absent, returns as `Err` the index at which to insert it.
-fn place_of(names: &[Name], name: &Name) -> Result<usize, usize>
+fn index_of_name(names: &[Name], name: &Name) -> Result<usize, usize>
     requires { AreAscending names.now }
     ensures found { IfOk result (IsFound name.now names.now) }
     ensures missing { IfErr result (IsMissing name.now names.now) }
@@ -290,7 +290,7 @@ fn place_of(names: &[Name], name: &Name) -> Result<usize, usize>
 }
 
 /// Returns whether `name` is below `other`: at the first byte that differs, or as its proper prefix.
-fn is_below(name: &Name, other: &Name) -> bool
+fn is_name_below(name: &Name, other: &Name) -> bool
     ensures { result ≡ is_lt (by_bytes name.now other.now) }
 {
     name.as_slice().cmp(other.as_slice()).is_lt()
@@ -311,14 +311,14 @@ fn next_name(last: &Name, bytes: &[u8]) -> Option<Name>
         return None;
     }
     let name = Name::from_slice(&rest[..len]);
-    if !is_below(last, &name) {
+    if !is_name_below(last, &name) {
         return None;
     }
     Some(name)
 }
 
 /// Returns the bytes after the encoding of `name`, with which `bytes` must begin.
-fn behind<'a>(name: &Name, bytes: &'a [u8]) -> &'a [u8]
+fn bytes_after_name<'a>(name: &Name, bytes: &'a [u8]) -> &'a [u8]
     requires { length name.now < length bytes.now }
     ensures { result.now ≡ drop (suc (length name.now)) bytes.now }
 {
@@ -326,7 +326,7 @@ fn behind<'a>(name: &Name, bytes: &'a [u8]) -> &'a [u8]
 }
 
 /// Returns whether the bytes are exactly the encodings of `count` names, strictly ascending.
-fn are_names(count: usize, bytes: &[u8]) -> bool
+fn are_encoded_names(count: usize, bytes: &[u8]) -> bool
     ensures { result ≡ is_some (names_of count [] bytes.now) }
 {
     let mut rest = bytes;
@@ -335,7 +335,7 @@ fn are_names(count: usize, bytes: &[u8]) -> bool
         let Some(name) = next_name(&last, rest) else {
             return false;
         };
-        rest = behind(&name, rest);
+        rest = bytes_after_name(&name, rest);
         last = name;
     }
     rest.is_empty()
@@ -346,7 +346,7 @@ fn are_names(count: usize, bytes: &[u8]) -> bool
 /// The bytes must be exactly their encodings.
 ///
 /// Errors: `Memory` if an allocation fails.
-fn read_names<A: Allocator + Copy + Drop>(
+fn decode_names<A: Allocator + Copy + Drop>(
     alloc: A,
     count: usize,
     bytes: &[u8],
@@ -360,7 +360,7 @@ fn read_names<A: Allocator + Copy + Drop>(
     let mut last = Name::from_slice(&[]);
     for _i in 0..count {
         let name = next_name(&last, rest).unwrap();
-        rest = behind(&name, rest);
+        rest = bytes_after_name(&name, rest);
         last = name;
         names.push(name).unwrap();
     }
@@ -374,7 +374,7 @@ fn append_names<A: Allocator + Copy + Drop>(
     out: &mut Vec<u8, A>,
     names: &[Name],
 ) -> Result<(), Fault>
-    requires few { length names.now ≤ most }
+    requires few { length names.now ≤ max_names }
     requires fit { All IsName names.now }
     ensures ok { OnOk result (out.new.items ≡ out.old.items ++ snapshot_of names.now) }
     ensures front { take (vec_len out.old) out.new.items ≡ out.old.items }

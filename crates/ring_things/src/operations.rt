@@ -44,12 +44,12 @@ pub fn key_value_operation(code: u8, key: u8, value: u64) -> Operation
 }
 
 /// Returns the byte `head` followed by the bytes `text`, which must be fewer than `N`.
-pub fn with_head_byte<const N: usize>(head: u8, text: &[u8]) -> ShortBytes<N>
+pub fn prefixed_bytes<const N: usize>(head: u8, text: &[u8]) -> ShortBytes<N>
     requires { length text.now < N }
     ensures { result ≡ head ∷ text.now }
 {
     let mut bytes = [head; N];
-    let places = &mut bytes[..];
-    places[1..=text.len()].copy_from_slice(text);
-    ShortBytes::from_slice(&places[..=text.len()])
+    let bytes_to_fill = &mut bytes[..];
+    bytes_to_fill[1..=text.len()].copy_from_slice(text);
+    ShortBytes::from_slice(&bytes_to_fill[..=text.len()])
 }

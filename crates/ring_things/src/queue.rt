@@ -6,9 +6,9 @@
 ghost use Rattle.std.specs.Prelude.{◌≡◌, ◌+◌, ◌*◌, ◌≤◌, ◌++◌, length, Some, IfOk, IfErr, OnOk};
 ghost use Rattle.ring_things.specs.Queue.{decoding, encoding};
 
-use crate::numbers::{append_numbers, read_numbers};
+use crate::encoded_numbers::{append_encoded_numbers, decode_numbers};
 use crate::operations::Operation;
-use crate::replies::{Outcome, reply, reply_with};
+use crate::replies::{Outcome, outcome_reply, outcome_reply_with};
 use byteorder::{BigEndian, ByteOrder};
 use ring_base::Fault;
 use ring_object::{Object, Reply};
@@ -17,7 +17,7 @@ use std::collections::VecDeque;
 use std::marker::Model;
 
 /// The maximum number of values in a queue.
-const MAX_ITEMS: usize = 1024;
+const MAX_QUEUE_VALUES: usize = 1024;
 
 /// A first-in first-out queue of at most 1,024 values of 64 bits, empty at the start.
 ///
@@ -78,20 +78,23 @@ impl<A: Allocator + Copy + Drop> Object for Queue<A> {
     }
 
     fn apply(&mut self, op: &[u8]) -> Result<Reply, Fault> {
-        Ok(match QueueOperation::read(op) {
+        Ok(match QueueOperation::decode_queue_operation(op) {
             Some(QueueOperation::Push(value)) => {
-                if self.items.len() == MAX_ITEMS {
-                    return Ok(reply(Outcome::NotDone));
+                if self.items.len() == MAX_QUEUE_VALUES {
+                    return Ok(outcome_reply(Outcome::NotDone));
                 }
                 self.items.push_back(value)?;
-                reply(Outcome::Done)
+                outcome_reply(Outcome::Done)
             }
             Some(QueueOperation::Pop) => match self.items.pop_front() {
-                Some(value) => reply_with(Outcome::Done, value),
-                None => reply(Outcome::NotDone),
+                Some(value) => outcome_reply_with(Outcome::Done, value),
+                None => outcome_reply(Outcome::NotDone),
             },
-            Some(QueueOperation::Count) => reply_with(Outcome::Done, self.items.len() as u64),
-            None => reply(Outcome::Unreadable),
+            Some(QueueOperation::Count) => outcome_reply_with(
+                Outcome::Done,
+                self.items.len() as u64,
+            ),
+            None => outcome_reply(Outcome::Unreadable),
         })
     }
 
@@ -102,8 +105,8 @@ impl<A: Allocator + Copy + Drop> Object for Queue<A> {
         BigEndian::write_u16(&mut head, count as u16);
         out.extend_from_slice(&head).unwrap();
         let (first, last) = self.items.as_slices();
-        append_numbers(out, first);
-        append_numbers(out, last);
+        append_encoded_numbers(out, first);
+        append_encoded_numbers(out, last);
         Ok(())
     }
 
@@ -113,10 +116,10 @@ impl<A: Allocator + Copy + Drop> Object for Queue<A> {
         }
         let count = BigEndian::read_u16(bytes) as usize;
         let rest = &bytes[2..];
-        if count > MAX_ITEMS || rest.len() != 8 * count {
+        if count > MAX_QUEUE_VALUES || rest.len() != 8 * count {
             return Err(Fault::BadSnapshot);
         }
-        let items = VecDeque::from_vec(read_numbers(alloc, count, rest)?);
+        let items = VecDeque::from_vec(decode_numbers(alloc, count, rest)?);
         Ok(Queue { items })
     }
 }
@@ -173,7 +176,7 @@ enum QueueOperation {
 
 impl QueueOperation {
     /// Decodes an operation of a queue, or returns `None` for bytes that aren't one.
-    fn read(op: &[u8]) -> Option<QueueOperation>
+    fn decode_queue_operation(op: &[u8]) -> Option<QueueOperation>
         ensures { result ≡ decoding op.now }
     {
         let [code, rest @ ..] = op else {

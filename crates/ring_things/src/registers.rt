@@ -7,7 +7,7 @@ ghost use Rattle.std.specs.Prelude.{◌≡◌, Some};
 ghost use Rattle.ring_things.specs.Registers.{decoding, encoding};
 
 use crate::operations::{Operation, key_operation, key_value_operation};
-use crate::replies::{Outcome, reply, reply_with};
+use crate::replies::{Outcome, outcome_reply, outcome_reply_with};
 use crate::table::Table;
 use byteorder::{BigEndian, ByteOrder};
 use ring_base::Fault;
@@ -71,21 +71,24 @@ impl<A: Allocator + Copy + Drop> Object for Registers<A> {
     }
 
     fn apply(&mut self, op: &[u8]) -> Result<Reply, Fault> {
-        Ok(match RegisterOperation::read(op) {
-            Some(RegisterOperation::Get(key)) => reply_with(Outcome::Done, self.values.get(key)),
+        Ok(match RegisterOperation::decode_register_operation(op) {
+            Some(RegisterOperation::Get(key)) => outcome_reply_with(
+                Outcome::Done,
+                self.values.get(key),
+            ),
             Some(RegisterOperation::Put(key, value)) => {
                 self.values.set(key, value);
-                reply(Outcome::Done)
+                outcome_reply(Outcome::Done)
             }
             Some(RegisterOperation::CompareAndSet(key, expected, new)) => {
                 let value = self.values.get(key);
                 if value != expected {
-                    return Ok(reply_with(Outcome::NotDone, value));
+                    return Ok(outcome_reply_with(Outcome::NotDone, value));
                 }
                 self.values.set(key, new);
-                reply(Outcome::Done)
+                outcome_reply(Outcome::Done)
             }
-            None => reply(Outcome::Unreadable),
+            None => outcome_reply(Outcome::Unreadable),
         })
     }
 
@@ -157,7 +160,7 @@ enum RegisterOperation {
 
 impl RegisterOperation {
     /// Decodes an operation of registers, or returns `None` for bytes that aren't one.
-    fn read(op: &[u8]) -> Option<RegisterOperation>
+    fn decode_register_operation(op: &[u8]) -> Option<RegisterOperation>
         ensures { result ≡ decoding op.now }
     {
         let [code, key, rest @ ..] = op else {

@@ -39,7 +39,7 @@ impl Outcome {
     /// Decodes the byte of an outcome.
     ///
     /// Returns `None` for other bytes.
-    fn of(code: u8) -> Option<Outcome>
+    fn outcome_from_code(code: u8) -> Option<Outcome>
         ensures { result ≡ outcome_of code }
     {
         match code {
@@ -74,18 +74,18 @@ impl ReplyParts {
         ensures found { IfSome result (λ replied. encoding replied ≡ reply.now) }
         ensures only { (replied : OneReplied) → ValueFits replied.value → encoding replied ≡ reply.now → result ≡ Some replied }
     {
-        reply_in(reply)
+        decode_reply(reply)
     }
 }
 
 /// Decodes a reply, as [`ReplyParts::read`] does.
-fn reply_in(bytes: &[u8]) -> Option<ReplyParts>
+fn decode_reply(bytes: &[u8]) -> Option<ReplyParts>
     ensures { result ≡ decoding bytes.now }
 {
     let [code, rest @ ..] = bytes else {
         return None;
     };
-    let outcome = Outcome::of(*code)?;
+    let outcome = Outcome::outcome_from_code(*code)?;
     let value = match rest.len() {
         0 => None,
         8 => Some(BigEndian::read_u64(rest)),
@@ -97,7 +97,7 @@ fn reply_in(bytes: &[u8]) -> Option<ReplyParts>
 /// Returns the reply of one byte, which encodes `outcome`.
 ///
 /// Formats: Operations and replies
-pub fn reply(outcome: Outcome) -> Reply
+pub fn outcome_reply(outcome: Outcome) -> Reply
     ensures { result ≡ code_of outcome ∷ [] }
 {
     Reply::from_slice(&[outcome as u8])
@@ -106,7 +106,7 @@ pub fn reply(outcome: Outcome) -> Reply
 /// Returns the reply of nine bytes: the byte of `outcome`, then `value` in 8 bytes, big-endian.
 ///
 /// Formats: Operations and replies
-pub fn reply_with(outcome: Outcome, value: u64) -> Reply
+pub fn outcome_reply_with(outcome: Outcome, value: u64) -> Reply
     ensures { result ≡ code_of outcome ∷ big_bytes 8 value }
 {
     let mut bytes = [outcome as u8; 9];

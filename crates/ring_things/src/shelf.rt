@@ -11,13 +11,13 @@ ghost use Rattle.ring_things.specs.ShelfLaws.{AreContents};
 
 use crate::counters::Counters;
 use crate::names::Names;
-use crate::operations::{Operation, ShelfOperation, with_head_byte};
+use crate::operations::{Operation, ShelfOperation, prefixed_bytes};
 use crate::queue::Queue;
 use crate::registers::Registers;
-use crate::replies::{Outcome, reply};
+use crate::replies::{Outcome, outcome_reply};
 use byteorder::{BigEndian, ByteOrder};
 use ring_base::Fault;
-use ring_object::{Object, Reply, append_sized};
+use ring_object::{Object, Reply, append_sized_snapshot};
 use std::marker::Model;
 
 /// A composite object: four objects of any types as one object.
@@ -122,13 +122,19 @@ impl<
             Some((1, rest)) => self.second.apply(rest),
             Some((2, rest)) => self.third.apply(rest),
             Some((3, rest)) => self.fourth.apply(rest),
-            _ => Ok(reply(Outcome::Unreadable)),
+            _ => Ok(outcome_reply(Outcome::Unreadable)),
         }
     }
 
     fn snapshot(&self, out: &mut Vec<u8, P::Alloc>) -> Result<(), Fault> {
         let start = out.len();
-        let appended = append_all(&self.first, &self.second, &self.third, &self.fourth, out);
+        let appended = append_shelf_snapshots(
+            &self.first,
+            &self.second,
+            &self.third,
+            &self.fourth,
+            out,
+        );
         if appended.is_err() {
             out.truncate(start);
         }
@@ -136,12 +142,12 @@ impl<
     }
 
     fn restore(alloc: P::Alloc, bytes: &[u8]) -> Result<Self, Fault> {
-        let Some((first, second, third, fourth)) = split_all(bytes) else {
+        let Some((first, second, third, fourth)) = split_shelf_snapshot(bytes) else {
             return Err(Fault::BadSnapshot);
         };
-        let front = both(P::restore(alloc, first), Q::restore(alloc, second));
-        let back = both(R::restore(alloc, third), S::restore(alloc, fourth));
-        let ((first, second), (third, fourth)) = both(front, back)?;
+        let front = both_restored(P::restore(alloc, first), Q::restore(alloc, second));
+        let back = both_restored(R::restore(alloc, third), S::restore(alloc, fourth));
+        let ((first, second), (third, fourth)) = both_restored(front, back)?;
         Ok(Shelf {
             first,
             second,
@@ -157,7 +163,7 @@ impl<
 ///
 /// Formats: Operations and replies
 #[derive(Clone, Copy, Debug, PartialEq, Eq)]
-pub enum ShelfPlace {
+pub enum ShelfPosition {
     /// The shelf's first object, number 0.
     First = 0,
     /// The shelf's second object, number 1.
@@ -168,7 +174,7 @@ pub enum ShelfPlace {
     Fourth = 3,
 }
 
-impl ShelfPlace {
+impl ShelfPosition {
     /// Returns the shelf's operation that applies `operation` to the object at this position.
     ///
     /// It is the object's number in one byte, then the bytes of `operation`.
@@ -177,14 +183,14 @@ impl ShelfPlace {
     pub fn operation(self, operation: &Operation) -> ShelfOperation
         ensures { result ≡ number_of self ∷ operation.now }
     {
-        with_head_byte(self as u8, operation.as_slice())
+        prefixed_bytes(self as u8, operation.as_slice())
     }
 }
 
 /// Appends the snapshots of four objects to `out`, each preceded by its length.
 ///
 /// Errors: `Memory` if an allocation fails; some of the bytes may then have been appended.
-fn append_all<
+fn append_shelf_snapshots<
     P: Object,
     Q: Object<Alloc = P::Alloc>,
     R: Object<Alloc = P::Alloc>,
@@ -199,16 +205,16 @@ fn append_all<
     ensures front { take (vec_len out.old) out.new.items ≡ out.old.items }
     ensures refused { IfErr result (λ fault. fault ≡ Fault.Memory) }
 {
-    append_sized(first, out)?;
-    append_sized(second, out)?;
-    append_sized(third, out)?;
-    append_sized(fourth, out)
+    append_sized_snapshot(first, out)?;
+    append_sized_snapshot(second, out)?;
+    append_sized_snapshot(third, out)?;
+    append_sized_snapshot(fourth, out)
 }
 
 /// Splits the bytes into a text preceded by its length, and the rest.
 ///
 /// Returns `None` if they are too short.
-fn split_text(bytes: &[u8]) -> Option<(&[u8], &[u8])>
+fn split_sized_text(bytes: &[u8]) -> Option<(&[u8], &[u8])>
     ensures { option_map (λ parts. (parts.0.now, parts.1.now)) result ≡ first_text 8 bytes.now }
 {
     if bytes.len() < 8 {
@@ -225,14 +231,14 @@ fn split_text(bytes: &[u8]) -> Option<(&[u8], &[u8])>
 /// Splits the bytes into exactly four texts, each preceded by its length.
 ///
 /// Returns `None` if they are anything else.
-fn split_all(bytes: &[u8]) -> Option<(&[u8], &[u8], &[u8], &[u8])>
+fn split_shelf_snapshot(bytes: &[u8]) -> Option<(&[u8], &[u8], &[u8], &[u8])>
     ensures { option_map (λ texts. (texts.0.now, texts.1.now, texts.2.now, texts.3.now)) result
         ≡ texts_of bytes.now }
 {
-    let (first, rest) = split_text(bytes)?;
-    let (second, rest) = split_text(rest)?;
-    let (third, rest) = split_text(rest)?;
-    let (fourth, rest) = split_text(rest)?;
+    let (first, rest) = split_sized_text(bytes)?;
+    let (second, rest) = split_sized_text(rest)?;
+    let (third, rest) = split_sized_text(rest)?;
+    let (fourth, rest) = split_sized_text(rest)?;
     if !rest.is_empty() {
         return None;
     }
@@ -242,7 +248,7 @@ fn split_all(bytes: &[u8]) -> Option<(&[u8], &[u8], &[u8], &[u8])>
 /// Returns both restored objects.
 ///
 /// Errors: `BadSnapshot` if either result has it; otherwise `Memory`.
-fn both<X: Drop, Y: Drop>(
+fn both_restored<X: Drop, Y: Drop>(
     first: Result<X, Fault>,
     second: Result<Y, Fault>,
 ) -> Result<(X, Y), Fault>

@@ -5,7 +5,7 @@
 ghost use Rattle.std.specs.Prelude.{◌≡◌, ◌++◌, slice_index, slice_set, Some, IfOk, IfErr, OnOk, OnErr};
 ghost use Rattle.ring_things.specs.Numbers.{list_encoding};
 
-use crate::numbers::{append_numbers, read_numbers};
+use crate::encoded_numbers::{append_encoded_numbers, decode_numbers};
 use ring_base::Fault;
 use std::alloc::{Allocator, Global};
 use std::marker::Model;
@@ -13,7 +13,7 @@ use std::marker::Model;
 /// The number of keys.
 ///
 /// A key is one byte.
-const KEYS: usize = 256;
+const TABLE_KEYS: usize = 256;
 
 /// A number of 64 bits for each of the keys 0 to 255, all 0 at the start.
 ///
@@ -51,7 +51,7 @@ impl<A: Allocator + Copy + Drop> Table<A> {
         ensures ok { IfOk result (λ table. table ≡ zeros keys) }
         ensures refused { IfErr result (λ fault. fault ≡ Fault.Memory) }
     {
-        let numbers = vec![in alloc; 0; KEYS]?;
+        let numbers = vec![in alloc; 0; TABLE_KEYS]?;
         Ok(Table { numbers })
     }
 
@@ -83,8 +83,8 @@ impl<A: Allocator + Copy + Drop> Table<A> {
         ensures err { OnErr result (out.new.items ≡ out.old.items) }
         ensures refused { IfErr result (λ fault. fault ≡ Fault.Memory) }
     {
-        out.reserve(8 * KEYS)?;
-        append_numbers(out, self.numbers.as_slice());
+        out.reserve(8 * TABLE_KEYS)?;
+        append_encoded_numbers(out, self.numbers.as_slice());
         Ok(())
     }
 
@@ -98,10 +98,10 @@ impl<A: Allocator + Copy + Drop> Table<A> {
         ensures ok { IfOk result (λ table. table_of keys bytes.now ≡ Some table) }
         ensures refused { IfErr result (IsSnapshotRefusal (table_of keys bytes.now)) }
     {
-        if bytes.len() != 8 * KEYS {
+        if bytes.len() != 8 * TABLE_KEYS {
             return Err(Fault::BadSnapshot);
         }
-        let numbers = read_numbers(alloc, KEYS, bytes)?;
+        let numbers = decode_numbers(alloc, TABLE_KEYS, bytes)?;
         Ok(Table { numbers })
     }
 }

@@ -3,9 +3,9 @@
 //! Formats: Operations and replies
 
 ghost use Rattle.std.specs.Prelude.{◌≡◌};
-ghost use Rattle.ring_things.specs.Typed.{replied, done, done_with, refused_with};
+ghost use Rattle.ring_things.specs.Typed.{replied, done, done_with, not_done_with};
 
-use crate::replies::{Outcome, ReplyParts, reply, reply_with};
+use crate::replies::{Outcome, ReplyParts, outcome_reply, outcome_reply_with};
 use ring_object::Reply;
 
 /// Returns the bytes of a decoded reply: the byte of the outcome, then the value in 8 bytes if there is one.
@@ -22,14 +22,14 @@ pub fn reply_of(answer: Option<ReplyParts>) -> Reply
                 outcome,
                 value: Some(value),
             },
-        ) => reply_with(outcome, value),
+        ) => outcome_reply_with(outcome, value),
         Some(
             ReplyParts {
                 outcome,
                 value: None,
             },
-        ) => reply(outcome),
-        None => reply(Outcome::Unreadable),
+        ) => outcome_reply(outcome),
+        None => outcome_reply(Outcome::Unreadable),
     }
 }
 
@@ -61,8 +61,8 @@ pub fn done_with(value: u64) -> ReplyParts
 /// `NotDone`.
 ///
 /// Formats: Operations and replies
-pub fn refused_with(value: u64) -> ReplyParts
-    ensures { result ≡ refused_with value }
+pub fn not_done_with(value: u64) -> ReplyParts
+    ensures { result ≡ not_done_with value }
 {
     ReplyParts {
         outcome: Outcome::NotDone,

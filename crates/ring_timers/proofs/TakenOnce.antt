@@ -2,8 +2,8 @@
 use Rattle.std.proofs.Common.{◌≡◌, ℕ, ◌+◌, ◌≤◌, max, nat_le, Bool, true, false, if◌then◌else◌, filter, find, Option, refl, arith}
 use Rattle.std.proofs.lemmas.Bool.Decides.{nat_tests}
 use Rattle.std.specs.List.{cons_option}
-use Rattle.ring_base.specs.declared.kind.Kind.{Kind}
-use Rattle.ring_base.specs.declared.kind.Kind.TheVariants.{Join, Retransmit, Consensus, Loss}
+use Rattle.ring_base.specs.declared.timeout_kind.Kind.{Kind}
+use Rattle.ring_base.specs.declared.timeout_kind.Kind.TheVariants.{Join, Retransmit, Consensus, Loss}
 use Rattle.ring_timers.specs.declared.periods.Periods.{Periods}
 use Rattle.ring_timers.specs.Periods.{period_of}
 use Rattle.ring_timers.specs.Timers.{TimersView, beginning_of, is_due, kinds_in_order, due_timeouts, first_due}

@@ -2,8 +2,8 @@
 -- Rules: A node with a clock 3
 use Rattle.std.specs.Prelude.{ℕ}
 use Rattle.std.proofs.Common.{lit≤}
-use Rattle.ring_base.specs.declared.kind.Kind.{Kind}
-use Rattle.ring_base.specs.declared.kind.Kind.TheVariants.{Join, Retransmit, Consensus, Loss}
+use Rattle.ring_base.specs.declared.timeout_kind.Kind.{Kind}
+use Rattle.ring_base.specs.declared.timeout_kind.Kind.TheVariants.{Join, Retransmit, Consensus, Loss}
 use Rattle.ring_timers.specs.declared.periods.Periods.{Periods}
 
 -- the periods by default

@@ -1,8 +1,8 @@
 -- The events at a node's timers, and the timeouts that begin again at each.
 -- Rules: A node with a clock 2, 4 and 5
 use Rattle.std.specs.Prelude.{ℕ, ◌≡◌, ◌⊎◌, max, ◌||◌, ◌&&◌, not, Bool, true, false, if◌then◌else◌, List, [], ◌∷◌, ◌++◌, All, Option, Some}
-use Rattle.ring_base.specs.declared.kind.Kind.{Kind}
-use Rattle.ring_base.specs.declared.kind.Kind.TheVariants.{Join, Retransmit, Consensus, Loss}
+use Rattle.ring_base.specs.declared.timeout_kind.Kind.{Kind}
+use Rattle.ring_base.specs.declared.timeout_kind.Kind.TheVariants.{Join, Retransmit, Consensus, Loss}
 use Rattle.ring_timers.specs.declared.step_outcome.StepOutcome.{StepOutcome}
 use Rattle.ring_timers.specs.Timers.{TimersView, beginning_of, time_at}
 
@@ -71,8 +71,8 @@ latest_time opening [] = opening
 latest_time opening (event ∷ events) = latest_time (max opening event.time) events
 
 -- the timeout begins again at none of these events
-abbrev pub NeverBeginsAnew : List TimerEvent → Kind → Type 0
-NeverBeginsAnew events kind = All (λ (event : TimerEvent). begins_anew event.action kind ≡ false) events
+abbrev pub NeverBeginsAgain : List TimerEvent → Kind → Type 0
+NeverBeginsAgain events kind = All (λ (event : TimerEvent). begins_anew event.action kind ≡ false) events
 
 -- Among these events is one at which the timeout begins again, for the last time, and the number is the time of that
 -- event: the latest one that was passed until then.
@@ -82,10 +82,10 @@ pub record BeginsLastAt (opening : ℕ) (events : List TimerEvent) (kind : Kind)
   pub after : List TimerEvent
   pub parts : before ++ event ∷ after ≡ events
   pub begins : begins_anew event.action kind ≡ true
-  pub last : NeverBeginsAnew after kind
+  pub last : NeverBeginsAgain after kind
   pub at : time ≡ latest_time opening (before ++ event ∷ [])
 
 -- A timeout has counted since this time: since the last event at which it began again, or since the opening if there is
 -- none.
 abbrev pub HasCountedSince : ℕ → List TimerEvent → Kind → ℕ → Type 0
-HasCountedSince opening events kind time = BeginsLastAt opening events kind time ⊎ (NeverBeginsAnew events kind × (time ≡ opening))
+HasCountedSince opening events kind time = BeginsLastAt opening events kind time ⊎ (NeverBeginsAgain events kind × (time ≡ opening))

@@ -1,7 +1,7 @@
 -- A worked example: timers with the default periods that open at 0.
 -- Rules: A node with a clock 3 to 7
 use Rattle.std.specs.Prelude.{true, false, [], ◌∷◌, Some, None}
-use Rattle.ring_base.specs.declared.kind.Kind.TheVariants.{Join, Retransmit}
+use Rattle.ring_base.specs.declared.timeout_kind.Kind.TheVariants.{Join, Retransmit}
 use Rattle.ring_timers.specs.Periods.{default_periods}
 use Rattle.ring_timers.specs.Timers.{TimersView, timers_opened}
 use Rattle.ring_timers.specs.TimerEvents.{timeout_at, step_at, timers_after, timers_after_all}

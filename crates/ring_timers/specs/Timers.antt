@@ -1,8 +1,8 @@
 -- The timers of a node: when each timeout is due.
 -- Rules: A node with a clock 2 to 7
 use Rattle.std.specs.Prelude.{ℕ, ◌+◌, ◌-◌, ◌^◌, min, max, nat_le, Bool, List, [], ◌∷◌, filter, find, Option}
-use Rattle.ring_base.specs.declared.kind.Kind.{Kind}
-use Rattle.ring_base.specs.declared.kind.Kind.TheVariants.{Join, Retransmit, Consensus, Loss}
+use Rattle.ring_base.specs.declared.timeout_kind.Kind.{Kind}
+use Rattle.ring_base.specs.declared.timeout_kind.Kind.TheVariants.{Join, Retransmit, Consensus, Loss}
 use Rattle.ring_timers.specs.declared.periods.Periods.{Periods}
 use Rattle.ring_timers.specs.Periods.{period_of}
 

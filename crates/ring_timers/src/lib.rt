@@ -5,12 +5,12 @@
 //! Rules: A node with a clock 1 to 8
 #![tactic(auto)]
 
-mod laws;
 mod periods;
 mod step_outcome;
 mod timers;
+mod timers_laws;
 
-pub use laws::{timers_examples_law, timers_law};
 pub use periods::Periods;
 pub use step_outcome::StepOutcome;
 pub use timers::Timers;
+pub use timers_laws::{timers_examples_law, timers_law};

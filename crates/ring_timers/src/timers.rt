@@ -134,7 +134,7 @@ impl Timers {
     pub fn due_at(&self, kind: Kind) -> u64
         ensures { result ≡ min (due_at self.now kind) (2 ^ 64 - 1) }
     {
-        self.beginning(kind)
+        self.count_begin(kind)
             .saturating_add(u64::from(self.periods.period(kind)))
     }
 
@@ -144,7 +144,7 @@ impl Timers {
     pub fn is_due(&self, kind: Kind, now: u64) -> bool
         ensures { result ≡ is_due self.now now kind }
     {
-        self.time.max(now) - self.beginning(kind) >= u64::from(self.periods.period(kind))
+        self.time.max(now) - self.count_begin(kind) >= u64::from(self.periods.period(kind))
     }
 
     /// Returns the first timeout that is due at time `now`, in the order join, retransmit, consensus, loss.
@@ -167,7 +167,7 @@ impl Timers {
     }
 
     /// Returns the time at which the timeout last began to count.
-    fn beginning(&self, kind: Kind) -> u64
+    fn count_begin(&self, kind: Kind) -> u64
         ensures value { result ≡ beginning_of self.now kind }
         ensures past { result ≤ self.now.time }
     {

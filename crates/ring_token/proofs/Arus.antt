@@ -2,7 +2,7 @@
 use Rattle.std.proofs.Common.{◌≡◌, ℕ, ◌<◌, ◌≤◌, true, false, ◌⊎◌, inl, inr, Option, Some, None, ◌∙◌, arith, eqb-true, nat_lt, ltb-false, ltb-true, ne_eqb}
 use Rattle.std.proofs.lemmas.Bool.{cases_Bool, or_parts, cond-true, cond-false, true≢false, or_cases, eqb-false as eqb-ne}
 use Rattle.ring_wire.specs.declared.token.Token.{Token}
-use Rattle.ring_token.specs.Visits.{is_mine, may_set, aru_after, aru_id_after}
+use Rattle.ring_token.specs.Visits.{is_held_back_by_self, may_set_aru, aru_after, aru_id_after}
 
 -- The member set the `aru` to its front.
 pub record Sets (me f seq : ℕ) (t : Token) (aru : ℕ) (id : Option ℕ) : Type 0 where
@@ -17,24 +17,24 @@ pub record Stays (me f : ℕ) (t : Token) (aru : ℕ) (id : Option ℕ) : Type 0
   pub below : t.aru ≤ f
   pub other : t.aru_id ≡ Some me → ⊥
 
-is_mine_me : (me : ℕ) (id : Option ℕ) → is_mine me id ≡ false → id ≡ Some me → ⊥
+is_mine_me : (me : ℕ) (id : Option ℕ) → is_held_back_by_self me id ≡ false → id ≡ Some me → ⊥
 is_mine_me me None h e = true≢false h
 is_mine_me me (Some x) h e = eqb-ne x me h (let q : Some x ≡ Some me = e in cc)
 
 pub aru_step : (me f seq : ℕ) (t : Token) → Sets me f seq t (aru_after me f t) (aru_id_after me f seq t)
     ⊎ Stays me f t (aru_after me f t) (aru_id_after me f seq t)
 aru_step me f seq t =
-    elim (cases_Bool (may_set me f t)) [
+    elim (cases_Bool (may_set_aru me f t)) [
       | inl e ↦ inl (record {
         aru_is = cond-true _ _ _ e;
         id_is = λ l. cond-true _ _ _ e ∙ cond-false _ _ _ (ne_eqb f seq (λ q. omega arith));
         may = λ x is other. elim (or_cases _ _ e) [
           | inl q ↦ ltb-true _ _ q
           | inr q ↦ absurd
-              (other (eqb-true x me (let h : is_mine me (Some x) ≡ true = rw is at q in h)))
+              (other (eqb-true x me (let h : is_held_back_by_self me (Some x) ≡ true = rw is at q in h)))
         ];
       })
-      | inr e ↦ (let p : (nat_lt f t.aru ≡ false) × (is_mine me t.aru_id ≡ false) = or_parts _ _ e in inr
+      | inr e ↦ (let p : (nat_lt f t.aru ≡ false) × (is_held_back_by_self me t.aru_id ≡ false) = or_parts _ _ e in inr
           (record {
             aru_is = cond-false _ _ _ e;
             id_is = cond-false _ _ _ e;

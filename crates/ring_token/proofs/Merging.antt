@@ -5,7 +5,7 @@ use Rattle.std.specs.Prelude.{nat_lt, ◌==◌, if◌then◌else◌}
 use Rattle.std.specs.List.{AllByRecursion}
 use Rattle.std.specs.List.Sorted.{IsStrictlyIncreasing}
 use Rattle.std.proofs.lemmas.Bool.{cases_lt, cond_both, cond-true, cond-false, lt-ltb, le-ltb, eq-eqb, ne_eqb}
-use Rattle.ring_base.specs.Numbers.{insert_ascending, merged}
+use Rattle.ring_base.specs.Numbers.{insert_ascending, merged_ascending}
 use Rattle.ring_base.proofs.ListFronts.{take-nil}
 use Rattle.ring_token.specs.Requesting.{least_first, after}
 use Rattle.ring_wire.specs.Ascending.{IsStrictlyIncreasing-rest}
@@ -50,9 +50,9 @@ later_put x y ys l = cond-false (nat_lt x y) _ _ (le-ltb x y (omega arith)) ∙ 
 
 -- The least of both comes first.
 
-pub second_first : (xs : List ℕ) (y : ℕ) (ys : List ℕ) → AllAbove y xs → merged xs (y ∷ ys) ≡ y ∷ merged xs ys
+pub second_first : (xs : List ℕ) (y : ℕ) (ys : List ℕ) → AllAbove y xs → merged_ascending xs (y ∷ ys) ≡ y ∷ merged_ascending xs ys
 second_first [] y ys h = refl
-second_first (x ∷ xs) y ys h = ap (insert_ascending x) (second_first xs y ys h.1) ∙ later_put x y (merged xs ys) h.0
+second_first (x ∷ xs) y ys h = ap (insert_ascending x) (second_first xs y ys h.1) ∙ later_put x y (merged_ascending xs ys) h.0
 
 put_above : (x y : ℕ) (ys : List ℕ) → x < y → FirstAbove x ys → FirstAbove x (insert_ascending y ys)
 put_above x y [] l h = l
@@ -60,15 +60,15 @@ put_above x y (z ∷ ys) l h =
     cond_both (nat_lt y z) (y ∷ z ∷ ys) (if y == z then z ∷ ys else z ∷ insert_ascending y ys) (FirstAbove x) (λ e. l)
     (λ e. cond_both (y == z) (z ∷ ys) (z ∷ insert_ascending y ys) (FirstAbove x) (λ e. h) (λ e. h))
 
-both_above : (x : ℕ) (xs ys : List ℕ) → AllAbove x xs → FirstAbove x ys → FirstAbove x (merged xs ys)
+both_above : (x : ℕ) (xs ys : List ℕ) → AllAbove x xs → FirstAbove x ys → FirstAbove x (merged_ascending xs ys)
 both_above x [] ys h k = k
-both_above x (y ∷ xs) ys h k = put_above x y (merged xs ys) h.0 (both_above x xs ys h.1 k)
+both_above x (y ∷ xs) ys h k = put_above x y (merged_ascending xs ys) h.0 (both_above x xs ys h.1 k)
 
-pub first_first : (x : ℕ) (xs ys : List ℕ) → AllAbove x xs → FirstAbove x ys → merged (x ∷ xs) ys ≡ x ∷ merged xs ys
-first_first x xs ys h k = first_put x (merged xs ys) (both_above x xs ys h k)
+pub first_first : (x : ℕ) (xs ys : List ℕ) → AllAbove x xs → FirstAbove x ys → merged_ascending (x ∷ xs) ys ≡ x ∷ merged_ascending xs ys
+first_first x xs ys h k = first_put x (merged_ascending xs ys) (both_above x xs ys h k)
 
-pub same_first : (x : ℕ) (xs ys : List ℕ) → AllAbove x xs → merged (x ∷ xs) (x ∷ ys) ≡ x ∷ merged xs ys
-same_first x xs ys h = ap (insert_ascending x) (second_first xs x ys h) ∙ same_put x (merged xs ys)
+pub same_first : (x : ℕ) (xs ys : List ℕ) → AllAbove x xs → merged_ascending (x ∷ xs) (x ∷ ys) ≡ x ∷ merged_ascending xs ys
+same_first x xs ys h = ap (insert_ascending x) (second_first xs x ys h) ∙ same_put x (merged_ascending xs ys)
 
 -- All that are above a number are above each below it.
 pub second_below : (x y : ℕ) (xs : List ℕ) → y < x → AllAbove x xs → AllAbove y (x ∷ xs)
@@ -106,10 +106,10 @@ take_put (suc n) x (y ∷ ys) =
       ]
     ]
 
-pub take_merged : (n : ℕ) (xs ys : List ℕ) → take n (merged xs (take n ys)) ≡ take n (merged xs ys)
+pub take_merged : (n : ℕ) (xs ys : List ℕ) → take n (merged_ascending xs (take n ys)) ≡ take n (merged_ascending xs ys)
 take_merged n [] ys = take_again n ys
 take_merged n (x ∷ xs) ys =
-    sym (take_put n x (merged xs (take n ys))) ∙ ap (λ l. take n (insert_ascending x l)) (take_merged n xs ys) ∙ take_put n x (merged xs ys)
+    sym (take_put n x (merged_ascending xs (take n ys))) ∙ ap (λ l. take n (insert_ascending x l)) (take_merged n xs ys) ∙ take_put n x (merged_ascending xs ys)
 
 -- One more number is taken
 
@@ -125,7 +125,7 @@ taken_more n x sofar rest l =
 
 -- The rest, after the first is taken.
 pub record IsStep (n : ℕ) (xs ys : List ℕ) : Type 0 where
-  pub is : merged xs ys ≡ n ∷ merged (after n xs) (after n ys)
+  pub is : merged_ascending xs ys ≡ n ∷ merged_ascending (after n xs) (after n ys)
   pub ascends : Ascends (after n xs)
 
 after_same : (n : ℕ) (xs : List ℕ) → after n (n ∷ xs) ≡ xs
@@ -137,14 +137,14 @@ after_other n x xs ne = cond-false (x == n) xs (x ∷ xs) (ne_eqb x n ne)
 left_step : (x : ℕ) (xs ys : List ℕ) → Ascends (x ∷ xs) → FirstAbove x ys → after x ys ≡ ys → IsStep x (x ∷ xs) ys
 left_step x xs ys a f e =
     record {
-      is = first_first x xs ys a.0 f ∙ ap (λ l. x ∷ merged l ys) (sym (after_same x xs)) ∙ ap (λ l. x ∷ merged (after x (x ∷ xs)) l) (sym e);
+      is = first_first x xs ys a.0 f ∙ ap (λ l. x ∷ merged_ascending l ys) (sym (after_same x xs)) ∙ ap (λ l. x ∷ merged_ascending (after x (x ∷ xs)) l) (sym e);
       ascends = subst Ascends (sym (after_same x xs)) a.1;
     }
 
 both_step : (x : ℕ) (xs ys : List ℕ) → Ascends (x ∷ xs) → IsStep x (x ∷ xs) (x ∷ ys)
 both_step x xs ys a =
     record {
-      is = same_first x xs ys a.0 ∙ ap (λ l. x ∷ merged l ys) (sym (after_same x xs)) ∙ ap (λ l. x ∷ merged (after x (x ∷ xs)) l) (sym (after_same x ys));
+      is = same_first x xs ys a.0 ∙ ap (λ l. x ∷ merged_ascending l ys) (sym (after_same x xs)) ∙ ap (λ l. x ∷ merged_ascending (after x (x ∷ xs)) l) (sym (after_same x ys));
       ascends = subst Ascends (sym (after_same x xs)) a.1;
     }
 
@@ -152,8 +152,8 @@ right_step : (x y : ℕ) (xs ys : List ℕ) → Ascends (x ∷ xs) → y < x →
 right_step x y xs ys a l =
     let e : after y (x ∷ xs) ≡ x ∷ xs = after_other y x xs (λ q. omega arith) in
     record {
-      is = second_first (x ∷ xs) y ys (second_below x y xs l a.0) ∙ ap (λ k. y ∷ merged k ys) (sym e)
-          ∙ ap (λ k. y ∷ merged (after y (x ∷ xs)) k) (sym (after_same y ys));
+      is = second_first (x ∷ xs) y ys (second_below x y xs l a.0) ∙ ap (λ k. y ∷ merged_ascending k ys) (sym e)
+          ∙ ap (λ k. y ∷ merged_ascending (after y (x ∷ xs)) k) (sym (after_same y ys));
       ascends = subst Ascends (sym e) a;
     }
 
@@ -177,7 +177,7 @@ step (x ∷ xs) (y ∷ ys) n a e =
       ]
     ]
 
-pub nothing_left : (xs ys : List ℕ) → least_first xs ys ≡ None → merged xs ys ≡ []
+pub nothing_left : (xs ys : List ℕ) → least_first xs ys ≡ None → merged_ascending xs ys ≡ []
 nothing_left [] [] e = refl
 nothing_left [] (y ∷ ys) e = absurd cc
 nothing_left (x ∷ xs) [] e = absurd cc
@@ -189,7 +189,7 @@ nothing_left (x ∷ xs) (y ∷ ys) e = absurd cc
 pub record AreTaken (sofar xs ys all : List ℕ) : Type 0 where
   pub few : length sofar ≤ 32
   pub ascends : Ascends xs
-  pub is : sofar ++ take (32 - length sofar) (merged xs ys) ≡ all
+  pub is : sofar ++ take (32 - length sofar) (merged_ascending xs ys) ≡ all
 
 pub taken : (sofar xs ys all : List ℕ) (n : ℕ) → length sofar < 32 → least_first xs ys ≡ Some n
     → AreTaken sofar xs ys all → AreTaken (sofar ++ n ∷ []) (after n xs) (after n ys) all
@@ -198,22 +198,22 @@ taken sofar xs ys all n l e t =
     record {
       few = omega (arith, length-append sofar (n ∷ []));
       ascends = s.ascends;
-      is = sym (taken_more 32 n sofar (merged (after n xs) (after n ys)) l) ∙ ap (λ k. sofar ++ take (32 - length sofar) k) (sym s.is) ∙ t.is;
+      is = sym (taken_more 32 n sofar (merged_ascending (after n xs) (after n ys)) l) ∙ ap (λ k. sofar ++ take (32 - length sofar) k) (sym s.is) ∙ t.is;
     }
 
 -- The first 32 missing numbers serve as well as all.
-pub whole : (sofar remaining_requests missing lacking : List ℕ) → sofar ≡ take 32 (merged remaining_requests missing) → missing ≡ take 32 lacking → sofar ≡ take 32 (merged remaining_requests lacking)
-whole sofar remaining_requests missing lacking e m = e ∙ ap (λ l. take 32 (merged remaining_requests l)) m ∙ take_merged 32 remaining_requests lacking
+pub whole : (sofar remaining_requests missing lacking : List ℕ) → sofar ≡ take 32 (merged_ascending remaining_requests missing) → missing ≡ take 32 lacking → sofar ≡ take 32 (merged_ascending remaining_requests lacking)
+whole sofar remaining_requests missing lacking e m = e ∙ ap (λ l. take 32 (merged_ascending remaining_requests l)) m ∙ take_merged 32 remaining_requests lacking
 
 pub all_taken : (sofar xs ys all : List ℕ) → 32 ≤ length sofar → AreTaken sofar xs ys all → sofar ≡ all
 all_taken sofar xs ys all l t =
     let e : 32 - length sofar ≡ 0 = omega arith in
-    sym (append-nil sofar) ∙ ap (λ k. sofar ++ take k (merged xs ys)) (sym e) ∙ t.is
+    sym (append-nil sofar) ∙ ap (λ k. sofar ++ take k (merged_ascending xs ys)) (sym e) ∙ t.is
 
 pub none_left : (sofar xs ys all : List ℕ) → least_first xs ys ≡ None → AreTaken sofar xs ys all → sofar ≡ all
 none_left sofar xs ys all e t =
     sym (append-nil sofar) ∙ ap (λ k. sofar ++ k) (sym (take-nil (32 - length sofar)))
     ∙ ap (λ k. sofar ++ take (32 - length sofar) k) (sym (nothing_left xs ys e)) ∙ t.is
 
-pub begun : (remaining_requests missing : List ℕ) → IsStrictlyIncreasing remaining_requests → AreTaken [] remaining_requests missing (take 32 (merged remaining_requests missing))
+pub begun : (remaining_requests missing : List ℕ) → IsStrictlyIncreasing remaining_requests → AreTaken [] remaining_requests missing (take 32 (merged_ascending remaining_requests missing))
 begun remaining_requests missing h = record { few = omega arith; ascends = ascending remaining_requests h; is = refl }

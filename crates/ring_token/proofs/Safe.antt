@@ -11,9 +11,9 @@ use Rattle.std.proofs.lemmas.Bool.{cases_Bool, cases_lt, cond-true, cond-false, 
 use Rattle.ring_base.specs.Processors.{IsProc, IsMember, size}
 use Rattle.ring_base.specs.declared.ring_id.RingId.{RingId}
 use Rattle.ring_wire.specs.declared.token.Token.{Token}
-use Rattle.ring_token.specs.Turns.{mark_by, mark_after}
+use Rattle.ring_token.specs.TokenVisits.{mark_from_arus, mark_from_later_arus}
 use Rattle.ring_token.specs.Visits.{aru_after, aru_id_after}
-use Rattle.ring_token.specs.Rounds.{VisitBy, token_arrived, IsNext, AreVisits, forwarded_by, HaveGrown, MarksAreSafe, PairsAreSafe}
+use Rattle.ring_token.specs.Rounds.{VisitBy, token_arrived, IsNextVisit, AreVisits, forwarded_by, FrontsHaveGrown, MarksAreSafe, PairsAreSafe}
 use Rattle.ring_base.proofs.TurnsRound.{member_of, turns_differ, turns_differ_at, turns_return, turns_reach}
 use Rattle.ring_token.proofs.Arus.{Sets, Stays, aru_step}
 
@@ -61,10 +61,10 @@ covered_step members a s v ws t o some short who large (inr remaining_requests) 
 -- The effect of a visit on the token.
 
 seq_is : {A : Type 0} → (members : ℕ) (ring : RingId) (v : VisitBy A) (vs : List (VisitBy A))
-    → IsNext members ring v vs → v.turn.forwarded.seq ≡ v.turn.received.seq + length v.turn.fresh
+    → IsNextVisit members ring v vs → v.turn.forwarded.seq ≡ v.turn.received.seq + length v.turn.fresh
 seq_is members ring v vs h = ap (λ (t : Token). t.seq) h.goes
 
-step_at : {A : Type 0} → (members : ℕ) (ring : RingId) (v : VisitBy A) (vs : List (VisitBy A)) → IsNext members ring v vs →
+step_at : {A : Type 0} → (members : ℕ) (ring : RingId) (v : VisitBy A) (vs : List (VisitBy A)) → IsNextVisit members ring v vs →
     Sets v.who v.turn.front v.turn.forwarded.seq v.turn.received v.turn.forwarded.aru v.turn.forwarded.aru_id
     ⊎ Stays v.who v.turn.front v.turn.received v.turn.forwarded.aru v.turn.forwarded.aru_id
 step_at members ring v vs h =
@@ -112,7 +112,7 @@ round members ring s w zs (v ∷ ws) some h large short =
 
 -- The visit j turns after the rest is by that member.
 reached : {A : Type 0} → (members : ℕ) (ring : RingId) (s : ℕ) (front : ℕ → ℕ) (rest ws : List (VisitBy A))
-    → AreVisits members ring (ws ++ rest) → HaveGrown front (ws ++ rest)
+    → AreVisits members ring (ws ++ rest) → FrontsHaveGrown front (ws ++ rest)
     → AllByRecursion (λ (v : VisitBy A). s ≤ v.turn.front) ws → (j : ℕ) → j < length ws
     → s ≤ front (member_of members (length rest + j))
 reached members ring s front rest [] h k f j l = absurd (omega arith)
@@ -139,7 +139,7 @@ none_at members ring i rest (v ∷ ys) h f j l e =
 -- If two visits of a member, one round apart, both forwarded s or more, each member reaches s.
 pair_safe : {A : Type 0} → (members : ℕ) (ring : RingId) (s : ℕ) (front : ℕ → ℕ) (v w : VisitBy A)
     (ys zs : List (VisitBy A)) → 0 < size members → AreVisits members ring (v ∷ ys ++ w ∷ zs)
-    → HaveGrown front (v ∷ ys ++ w ∷ zs) → suc (length ys) ≡ size members → s ≤ w.turn.forwarded.aru → s ≤ v.turn.forwarded.aru
+    → FrontsHaveGrown front (v ∷ ys ++ w ∷ zs) → suc (length ys) ≡ size members → s ≤ w.turn.forwarded.aru → s ≤ v.turn.forwarded.aru
     → (p : ℕ) → IsProc p → IsMember members p → s ≤ front p
 pair_safe members ring s front v w ys zs some h k whole old new p proc m =
     let r = turns_reach members (suc (length zs)) p proc m in
@@ -201,13 +201,13 @@ round_between members ring i v w ys zs some h mine its others =
 
 safe_from : {A : Type 0} → (members : ℕ) (ring : RingId) (front : ℕ → ℕ) (i p : ℕ) (v : VisitBy A)
     (vs : List (VisitBy A)) → 0 < size members → IsProc p → IsMember members p → AreVisits members ring (v ∷ vs)
-    → HaveGrown front (v ∷ vs) → v.who ≡ i → (fs : List ℕ) → forwarded_by i vs ≡ fs → mark_by fs ≤ front p
-    → mark_after v.turn.forwarded.aru fs ≤ front p
+    → FrontsHaveGrown front (v ∷ vs) → v.who ≡ i → (fs : List ℕ) → forwarded_by i vs ≡ fs → mark_from_arus fs ≤ front p
+    → mark_from_later_arus v.turn.forwarded.aru fs ≤ front p
 safe_from members ring front i p v vs some proc m h k who [] e ih = omega arith
 safe_from {A} members ring front i p v vs some proc m h k who (b ∷ rest) e ih =
     let w = found i b rest vs e in
     let h' : AreVisits members ring (v ∷ w.newer ++ w.visit ∷ w.older) = subst (λ (us : List (VisitBy A)). AreVisits members ring (v ∷ us)) w.parts h in
-    let k' : HaveGrown front (v ∷ w.newer ++ w.visit ∷ w.older) = subst (λ (us : List (VisitBy A)). HaveGrown front (v ∷ us)) w.parts k in
+    let k' : FrontsHaveGrown front (v ∷ w.newer ++ w.visit ∷ w.older) = subst (λ (us : List (VisitBy A)). FrontsHaveGrown front (v ∷ us)) w.parts k in
     let whole = round_between members ring i v w.visit w.newer w.older some h' who w.who w.others in
     let a : w.visit.turn.forwarded.aru ≡ b = w.aru in
     let q : min v.turn.forwarded.aru b ≤ front p = pair_safe members ring (min v.turn.forwarded.aru b)
@@ -219,21 +219,21 @@ pub marks_safe : {A : Type 0} → MarksAreSafe A
 marks_safe members ring [] front some h k i p proc m = omega arith
 marks_safe members ring (v ∷ vs) front some h k i p proc m =
     let ih = marks_safe members ring vs front some h.1 k.1 i p proc m in
-    cond_both (v.who == i) _ _ (λ fs. mark_by fs ≤ front p)
+    cond_both (v.who == i) _ _ (λ fs. mark_from_arus fs ≤ front p)
     (λ e. safe_from members ring front i p v vs some proc m h k (eqb-true _ _ e) (forwarded_by i vs) refl ih)
     (λ e. ih)
 
 -- The lesser of two neighbours of a list is at most its mark.
-pair_marked : (newer older : List ℕ) (later earlier : ℕ) → min later earlier ≤ mark_by (newer ++ later ∷ earlier ∷ older)
+pair_marked : (newer older : List ℕ) (later earlier : ℕ) → min later earlier ≤ mark_from_arus (newer ++ later ∷ earlier ∷ older)
 pair_marked [] older later earlier = omega arith
 pair_marked (a ∷ []) older later earlier = omega arith
 pair_marked (a ∷ b ∷ newer) older later earlier =
-    (let q : min later earlier ≤ mark_by (b ∷ newer ++ later ∷ earlier ∷ older) = pair_marked
+    (let q : min later earlier ≤ mark_from_arus (b ∷ newer ++ later ∷ earlier ∷ older) = pair_marked
     (b ∷ newer) older later earlier in omega arith)
 
 pub pairs_safe : {A : Type 0} → PairsAreSafe A
 pairs_safe members ring visits front some h k i s later earlier newer older e l m p proc member =
-    let marked : mark_by (forwarded_by i visits) ≤ front p = marks_safe members ring visits front some h k i p proc member in
-    let pair : min later earlier ≤ mark_by (newer ++ later ∷ earlier ∷ older) = pair_marked newer older later earlier in
-    let same : mark_by (forwarded_by i visits) ≡ mark_by (newer ++ later ∷ earlier ∷ older) = ap mark_by e in
+    let marked : mark_from_arus (forwarded_by i visits) ≤ front p = marks_safe members ring visits front some h k i p proc member in
+    let pair : min later earlier ≤ mark_from_arus (newer ++ later ∷ earlier ∷ older) = pair_marked newer older later earlier in
+    let same : mark_from_arus (forwarded_by i visits) ≡ mark_from_arus (newer ++ later ∷ earlier ∷ older) = ap mark_from_arus e in
     omega arith

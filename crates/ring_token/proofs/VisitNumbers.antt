@@ -9,8 +9,8 @@ use Rattle.ring_base.specs.Numbers.{greatest, max_number}
 use Rattle.ring_base.specs.declared.ring_id.RingId.{RingId}
 use Rattle.ring_wire.specs.declared.token.Token.{Token}
 use Rattle.ring_base.proofs.SameRing.{ring_same, ring_itself}
-use Rattle.ring_token.specs.Turns.{TokenVisit, Raise, turns_of, is_newer, is_accepted, mark_by, forwarded_in, raised_to, safe_mark}
-use Rattle.ring_token.specs.Histories.{TokenHistory, with_turn, with_raise, next_number, last_aru, IsTokenKept}
+use Rattle.ring_token.specs.TokenVisits.{TokenVisit, MarkRaise, visits_in_ring, is_newer, is_accepted, mark_from_arus, forwarded_in, raised_to, safe_mark}
+use Rattle.ring_token.specs.Histories.{TokenHistory, history_with_visit, history_with_raise, next_number, last_aru, IsTokenKept}
 
 -- Of one ring
 
@@ -18,9 +18,9 @@ abbrev AreOf : {A : Type 0} → RingId → List (TokenVisit A) → Type 0
 AreOf r turns = AllByRecursion (λ (v : TokenVisit _). v.received.ring ≡ r) turns
 
 -- All of the visits are of the one ring.
-turns_all : {A : Type 0} → (r : RingId) (turns : List (TokenVisit A)) → AreOf r turns → turns_of r turns ≡ turns
+turns_all : {A : Type 0} → (r : RingId) (turns : List (TokenVisit A)) → AreOf r turns → visits_in_ring r turns ≡ turns
 turns_all r [] h = refl
-turns_all r (v ∷ turns) h = cond-true (same_ring v.received.ring r) (v ∷ turns_of r turns) (turns_of r turns)
+turns_all r (v ∷ turns) h = cond-true (same_ring v.received.ring r) (v ∷ visits_in_ring r turns) (visits_in_ring r turns)
     (ring_itself v.received.ring r h.0) ∙ ap (λ l. v ∷ l) (turns_all r turns h.1)
 
 -- Accepting
@@ -35,7 +35,7 @@ newer_than {A} (v ∷ turns) k = ap (λ b. nat_lt v.received.number k && b) (new
 pub newer_by : {A : Type 0} → (h : TokenHistory A) (next aru safe : ℕ) (t : Token) → IsTokenKept h next aru safe
     → t.ring ≡ h.ring → is_newer h.turns t ≡ nat_le next t.number
 newer_by {A} h next aru safe t k e =
-    ap (λ (r : RingId). list_all (λ (v : TokenVisit A). nat_lt v.received.number t.number) (turns_of r h.turns)) e
+    ap (λ (r : RingId). list_all (λ (v : TokenVisit A). nat_lt v.received.number t.number) (visits_in_ring r h.turns)) e
     ∙ ap (λ (vs : List (TokenVisit A)). list_all (λ (v : TokenVisit A). nat_lt v.received.number t.number) vs) (turns_all h.ring h.turns k.turns_in)
     ∙ newer_than h.turns t.number
     ∙ ap (λ n. nat_le n t.number) (sym k.next_is)
@@ -57,35 +57,35 @@ accepted_by h next aru safe high t k =
 
 -- A further visit: the lesser of its `aru` and the last one.
 pub mark_more : {A : Type 0} → (v : TokenVisit A) (turns : List (TokenVisit A))
-    → mark_by (v.forwarded.aru ∷ map (λ (v : TokenVisit A). v.forwarded.aru) turns) ≡ max (min v.forwarded.aru (last_aru turns))
-    (mark_by (map (λ (v : TokenVisit A). v.forwarded.aru) turns))
+    → mark_from_arus (v.forwarded.aru ∷ map (λ (v : TokenVisit A). v.forwarded.aru) turns) ≡ max (min v.forwarded.aru (last_aru turns))
+    (mark_from_arus (map (λ (v : TokenVisit A). v.forwarded.aru) turns))
 mark_more v [] = omega arith
 mark_more v (w ∷ turns) = refl
 
 forwarded_all : {A : Type 0} → (r : RingId) (turns : List (TokenVisit A)) → AreOf r turns → forwarded_in r turns ≡ map (λ (v : TokenVisit A). v.forwarded.aru) turns
 forwarded_all {A} r turns h = ap (λ (vs : List (TokenVisit A)). map (λ (v : TokenVisit A). v.forwarded.aru) vs) (turns_all r turns h)
 
-mark_with_turn : {A : Type 0} → (r : RingId) (v : TokenVisit A) (turns : List (TokenVisit A)) (raises : List Raise) → v.received.ring ≡ r → AreOf r turns →
+mark_with_turn : {A : Type 0} → (r : RingId) (v : TokenVisit A) (turns : List (TokenVisit A)) (raises : List MarkRaise) → v.received.ring ≡ r → AreOf r turns →
     safe_mark (v ∷ turns) raises r ≡ max (min v.forwarded.aru (last_aru turns)) (safe_mark turns raises r)
 mark_with_turn {A} r v turns raises e h =
-    let more : mark_by (forwarded_in r (v ∷ turns)) ≡ mark_by (v.forwarded.aru ∷ map (λ (v : TokenVisit A). v.forwarded.aru) turns) =
-    ap mark_by (forwarded_all r (v ∷ turns) (e, h)) in
-    let less : mark_by (forwarded_in r turns) ≡ mark_by (map (λ (v : TokenVisit A). v.forwarded.aru) turns) = ap mark_by (forwarded_all r turns h) in
-    let step : mark_by (v.forwarded.aru ∷ map (λ (v : TokenVisit A). v.forwarded.aru) turns) ≡ max (min v.forwarded.aru (last_aru turns))
-    (mark_by (map (λ (v : TokenVisit A). v.forwarded.aru) turns)) = mark_more v turns in
+    let more : mark_from_arus (forwarded_in r (v ∷ turns)) ≡ mark_from_arus (v.forwarded.aru ∷ map (λ (v : TokenVisit A). v.forwarded.aru) turns) =
+    ap mark_from_arus (forwarded_all r (v ∷ turns) (e, h)) in
+    let less : mark_from_arus (forwarded_in r turns) ≡ mark_from_arus (map (λ (v : TokenVisit A). v.forwarded.aru) turns) = ap mark_from_arus (forwarded_all r turns h) in
+    let step : mark_from_arus (v.forwarded.aru ∷ map (λ (v : TokenVisit A). v.forwarded.aru) turns) ≡ max (min v.forwarded.aru (last_aru turns))
+    (mark_from_arus (map (λ (v : TokenVisit A). v.forwarded.aru) turns)) = mark_more v turns in
     regrouped _ _ _ _ _ (more ∙ step) less
   where
     regrouped : (one all p m raised : ℕ) → one ≡ max p m → all ≡ m → max one raised ≡ max p (max all raised)
     regrouped one all p m raised a b = omega arith
 
-mark_with_raise : {A : Type 0} → (r : RingId) (m : ℕ) (turns : List (TokenVisit A)) (raises : List Raise)
+mark_with_raise : {A : Type 0} → (r : RingId) (m : ℕ) (turns : List (TokenVisit A)) (raises : List MarkRaise)
     → safe_mark turns (record { ring = r; mark = m } ∷ raises) r ≡ max m (safe_mark turns raises r)
 mark_with_raise r m turns raises =
-    let x : Raise = record { ring = r; mark = m } in
-    let e : filter (λ (y : Raise). same_ring y.ring r) (x ∷ raises) ≡ x ∷ filter (λ (y : Raise). same_ring y.ring r)
-    raises = cond-true (same_ring r r) (x ∷ filter (λ (y : Raise). same_ring y.ring r) raises)
-    (filter (λ (y : Raise). same_ring y.ring r) raises) (ring_itself r r refl) in
-    let g : raised_to r (x ∷ raises) ≡ max m (raised_to r raises) = ap (λ (ys : List Raise). greatest (map (λ (y : Raise). y.mark) ys)) e in
+    let x : MarkRaise = record { ring = r; mark = m } in
+    let e : filter (λ (y : MarkRaise). same_ring y.ring r) (x ∷ raises) ≡ x ∷ filter (λ (y : MarkRaise). same_ring y.ring r)
+    raises = cond-true (same_ring r r) (x ∷ filter (λ (y : MarkRaise). same_ring y.ring r) raises)
+    (filter (λ (y : MarkRaise). same_ring y.ring r) raises) (ring_itself r r refl) in
+    let g : raised_to r (x ∷ raises) ≡ max m (raised_to r raises) = ap (λ (ys : List MarkRaise). greatest (map (λ (y : MarkRaise). y.mark) ys)) e in
     regrouped _ _ _ _ g
   where
     regrouped : (one m all by : ℕ) → one ≡ max m all → max by one ≡ max m (max by all)
@@ -96,7 +96,7 @@ mark_with_raise r m turns raises =
 pub kept_turn : {A : Type 0} → (h : TokenHistory A) (v : TokenVisit A) (next aru safe next_after aru_after safe_after : ℕ)
     → IsTokenKept h next aru safe → v.received.ring ≡ h.ring →
     next_after ≡ max next (v.received.number + 1) → aru_after ≡ v.forwarded.aru → safe_after ≡ max safe (min aru v.forwarded.aru)
-    → IsTokenKept (with_turn h v) next_after aru_after safe_after
+    → IsTokenKept (history_with_visit h v) next_after aru_after safe_after
 kept_turn h v next aru safe next_after aru_after safe_after k e n a s =
     let m = mark_with_turn h.ring v h.turns h.raises e k.turns_in in
     record {
@@ -112,7 +112,7 @@ kept_turn h v next aru safe next_after aru_after safe_after k e n a s =
     joined after safe aru forwarded last mark more s f g m = omega arith
 
 pub kept_raise : {A : Type 0} → (h : TokenHistory A) (mark next aru safe safe_after : ℕ) → IsTokenKept h next aru safe
-    → safe_after ≡ max safe mark → IsTokenKept (with_raise h mark) next aru safe_after
+    → safe_after ≡ max safe mark → IsTokenKept (history_with_raise h mark) next aru safe_after
 kept_raise h mark next aru safe safe_after k s =
     let m = mark_with_raise h.ring mark h.turns h.raises in
     record {

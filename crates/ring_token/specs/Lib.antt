@@ -1,4 +1,4 @@
-pub mod Turns
+pub mod TokenVisits
 pub mod Visits
 pub mod Rounds
 pub mod Histories

@@ -13,7 +13,7 @@ use std::alloc::Allocator;
 /// messages are lost.
 ///
 /// Rules: Token and window 13
-pub fn safe_law<A: Allocator + Copy>()
+pub fn two_visits_safe_law<A: Allocator + Copy>()
     ensures marks { MarksAreSafe A }
     ensures pairs { PairsAreSafe A }
 {}

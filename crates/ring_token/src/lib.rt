@@ -7,7 +7,7 @@ mod laws;
 mod requests;
 mod visit;
 
-pub use laws::safe_law;
+pub use laws::two_visits_safe_law;
 pub use requests::{requests_after, requests_left};
-pub use ring_wire::{Call, CommitEntry, Content, Frame, Message, Payload};
-pub use visit::{Visit, Visits};
+pub use ring_wire::{Call, CommitEntry, Frame, Message, Payload, WrappedPayload};
+pub use visit::{Visit, VisitHistory};

@@ -48,8 +48,8 @@ pub fn requests_after(remaining_requests: &Requests, missing: &Requests) -> Requ
             return smallest;
         };
         smallest.push(number);
-        requests_left = after(number, requests_left);
-        lacking = after(number, lacking);
+        requests_left = without_first_if(number, requests_left);
+        lacking = without_first_if(number, lacking);
     }
     smallest
 }
@@ -68,7 +68,7 @@ fn least_first(requests_left: &[u64], lacking: &[u64]) -> Option<u64>
 }
 
 /// Returns `numbers` without its first number if that is `number`, otherwise unchanged.
-fn after(number: u64, numbers: &[u64]) -> &[u64]
+fn without_first_if(number: u64, numbers: &[u64]) -> &[u64]
     ensures { result.now ≡ after number numbers.now }
 {
     match numbers {

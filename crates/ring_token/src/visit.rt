@@ -6,9 +6,9 @@ ghost use Rattle.std.specs.Prelude.{◌≡◌, ℕ, ◌+◌, ◌<◌, ◌≤◌,
 ghost use Rattle.ring_base.specs.Numbers.{max_number};
 ghost use Rattle.ring_base.specs.Rings.{same_ring};
 ghost use Rattle.ring_wire.specs.Messages.{Payload as OnePayload};
-ghost use Rattle.ring_token.specs.Turns.{is_accepted};
-ghost use Rattle.ring_token.specs.Visits.{may_set, token_after};
-ghost use Rattle.ring_token.specs.Histories.{without_visits, turn_by, with_turn, with_raise, mark_of};
+ghost use Rattle.ring_token.specs.TokenVisits.{is_accepted};
+ghost use Rattle.ring_token.specs.Visits.{may_set_aru, token_after};
+ghost use Rattle.ring_token.specs.Histories.{without_visits, visit_made, history_with_visit, history_with_raise, mark_of};
 
 use ring_base::{Ghost, MAX, Proc, RingId, ghost_of};
 use ring_wire::{Requests, Token};
@@ -20,11 +20,11 @@ use std::marker::{Model, PhantomData};
 /// Code never creates a value of this type.
 ///
 /// Rules: Token and window 10
-pub struct Visits<A: Allocator + Copy = Global> {
+pub struct VisitHistory<A: Allocator + Copy = Global> {
     allocator: PhantomData<A>,
 }
 
-impl<A: Allocator + Copy> Model for Visits<A> {
+impl<A: Allocator + Copy> Model for VisitHistory<A> {
     ghost use Rattle.ring_base.specs.declared.ring_id.RingId.{RingId as OneRing};
     ghost use Rattle.ring_token.specs.Histories.{TokenHistory, without_visits as none_visited};
 
@@ -44,11 +44,11 @@ pub struct Visit<A: Allocator + Copy = Global> {
     me: Proc,
     ring: RingId,
     /// The least number that the next accepted token may have, 0 before the first visit.
-    next: u64,
+    next_token_number: u64,
     /// The `aru` that the last visit forwarded, 0 before the first.
     aru: u64,
     safe: u64,
-    history: Ghost<Visits<A>>,
+    history: Ghost<VisitHistory<A>>,
 }
 
 impl<A: Allocator + Copy> Model for Visit<A> {
@@ -59,7 +59,7 @@ impl<A: Allocator + Copy> Model for Visit<A> {
 
     ghost view = { λ v. v.history.value };
 
-    ghost invariant = { λ v. (v.me ≡ v.history.value.me) × (v.ring ≡ v.history.value.ring) × IsTokenKept v.history.value v.next v.aru v.safe };
+    ghost invariant = { λ v. (v.me ≡ v.history.value.me) × (v.ring ≡ v.history.value.ring) × IsTokenKept v.history.value v.next_token_number v.aru v.safe };
 }
 
 impl<A: Allocator + Copy> Visit<A> {
@@ -73,7 +73,7 @@ impl<A: Allocator + Copy> Visit<A> {
         Visit {
             me,
             ring,
-            next: 0,
+            next_token_number: 0,
             aru: 0,
             safe: 0,
             history,
@@ -90,7 +90,7 @@ impl<A: Allocator + Copy> Visit<A> {
     pub fn accepts(&self, token: &Token, high: u64) -> bool
         ensures { result ≡ is_accepted self.now.ring self.now.turns high token.now }
     {
-        is_acceptable(&self.ring, self.next, high, token)
+        is_acceptable(&self.ring, self.next_token_number, high, token)
     }
 
     /// Performs the visit of an accepted token, and returns the token to forward.
@@ -108,7 +108,7 @@ impl<A: Allocator + Copy> Visit<A> {
         requires seq { token.seq + sent ≤ max_number }
         requires count { length fresh ≡ sent }
         ensures token { result ≡ token_after self.old.me front sent requests token }
-        ensures visit { self.new ≡ with_turn self.old (turn_by self.old.me front fresh requests token) }
+        ensures visit { self.new ≡ history_with_visit self.old (visit_made self.old.me front fresh requests token) }
     {
         let mut forwarded = Token {
             ring: token.ring,
@@ -134,11 +134,11 @@ impl<A: Allocator + Copy> Visit<A> {
         requires seq { token.now.seq + sent ≤ max_number }
         requires count { length fresh ≡ sent }
         ensures token { forwarded.new ≡ token_after self.old.me front sent forwarded.old.requests token.now }
-        ensures visit { self.new ≡ with_turn self.old (turn_by self.old.me front fresh forwarded.old.requests token.now) }
+        ensures visit { self.new ≡ history_with_visit self.old (visit_made self.old.me front fresh forwarded.old.requests token.now) }
     {
         let history = ghost_of(&(&self.history, token, front, &forwarded.requests));
-        forward(self.me, token, front, sent, forwarded);
-        self.next = self.next.max(token.number + 1);
+        write_forwarded_token(self.me, token, front, sent, forwarded);
+        self.next_token_number = self.next_token_number.max(token.number + 1);
         self.safe = self.safe.max(self.aru.min(forwarded.aru));
         self.aru = forwarded.aru;
         self.history = history;
@@ -158,8 +158,8 @@ impl<A: Allocator + Copy> Visit<A> {
     /// Raises the safe mark to `mark`, which a member has reported in a commit token. A lower `mark` changes nothing.
     ///
     /// Rules: Recovery 3; Token and window 15
-    pub fn raise(&mut self, mark: u64)
-        ensures { self.new ≡ with_raise self.old mark }
+    pub fn raise_safe_mark(&mut self, mark: u64)
+        ensures { self.new ≡ history_with_raise self.old mark }
     {
         let history = ghost_of(&(&self.history, mark));
         self.safe = self.safe.max(mark);
@@ -174,7 +174,7 @@ impl<A: Allocator + Copy> Clone for Visit<A> {
         Ok(Visit {
             me: self.me,
             ring: self.ring,
-            next: self.next,
+            next_token_number: self.next_token_number,
             aru: self.aru,
             safe: self.safe,
             history: self.history.clone()?,
@@ -190,14 +190,14 @@ fn is_acceptable(ring: &RingId, next: u64, high: u64, token: &Token) -> bool
 }
 
 /// Returns whether a member may set `aru` to its front: the front is below `aru`, or no other member holds `aru` back.
-fn may_set(me: Proc, front: u64, token: &Token) -> bool
-    ensures { result ≡ may_set me front token.now }
+fn may_set_aru(me: Proc, front: u64, token: &Token) -> bool
+    ensures { result ≡ may_set_aru me front token.now }
 {
     front < token.aru || token.aru_id.is_none_or(|holder| holder == me)
 }
 
 /// Writes the token to forward into `forwarded`, except for its requests, which stay.
-fn forward(me: Proc, token: &Token, front: u64, sent: u64, forwarded: &mut Token)
+fn write_forwarded_token(me: Proc, token: &Token, front: u64, sent: u64, forwarded: &mut Token)
     requires number { token.now.number < max_number }
     requires seq { token.now.seq + sent ≤ max_number }
     ensures { forwarded.new ≡ token_after me front sent forwarded.old.requests token.now }
@@ -205,7 +205,7 @@ fn forward(me: Proc, token: &Token, front: u64, sent: u64, forwarded: &mut Token
     forwarded.ring = token.ring;
     forwarded.number = token.number + 1;
     forwarded.seq = token.seq + sent;
-    if may_set(me, front, token) {
+    if may_set_aru(me, front, token) {
         forwarded.aru = front;
         forwarded.aru_id = if front == forwarded.seq {
             None

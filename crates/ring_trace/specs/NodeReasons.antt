@@ -6,10 +6,10 @@ use Rattle.ring_base.specs.declared.state.State.TheVariants.{Gather, Commit, Rec
 use Rattle.ring_base.specs.Group.{Group, is_primary}
 use Rattle.ring_base.specs.Processors.{only}
 use Rattle.ring_trace_words.specs.Shares.{vote_share}
-use Rattle.ring_trace_words.specs.declared.change.Change.{Change}
-use Rattle.ring_trace_words.specs.declared.change.Change.TheVariants as change
-use Rattle.ring_trace_words.specs.declared.why.WaitReason.{WaitReason}
-use Rattle.ring_trace_words.specs.declared.why.WaitReason.TheVariants as wait
+use Rattle.ring_trace_words.specs.declared.node_change.Change.{Change}
+use Rattle.ring_trace_words.specs.declared.node_change.Change.TheVariants as change
+use Rattle.ring_trace_words.specs.declared.wait_reason.WaitReason.{WaitReason}
+use Rattle.ring_trace_words.specs.declared.wait_reason.WaitReason.TheVariants as wait
 use Rattle.ring_trace.specs.NodeViews.{ring_change}
 use Rattle.ring_trace.specs.declared.node_view.NodeView.{NodeView}
 

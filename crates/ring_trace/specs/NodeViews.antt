@@ -5,8 +5,8 @@ use Rattle.ring_base.specs.declared.state.State.{State}
 use Rattle.ring_base.specs.declared.state.State.TheVariants.{Gather, Commit, Recovery, Operational, Stopped}
 use Rattle.ring_base.specs.Group.{Group}
 use Rattle.ring_base.specs.Rings.{same_ring}
-use Rattle.ring_trace_words.specs.declared.change.Change.{Change}
-use Rattle.ring_trace_words.specs.declared.change.Change.TheVariants as change
+use Rattle.ring_trace_words.specs.declared.node_change.Change.{Change}
+use Rattle.ring_trace_words.specs.declared.node_change.Change.TheVariants as change
 use Rattle.ring_trace_words.specs.Shares.{vote_share}
 use Rattle.ring_trace.specs.declared.node_view.NodeView.{NodeView}
 

@@ -111,7 +111,7 @@ fn call_names(
     place: &mut Option<Frame<Global>>,
 ) -> Result<Vec<String>, Fault> {
     let mut names = Vec::new(alloc);
-    if Frame::<Global>::get_into(alloc, bytes, place).is_err() {
+    if Frame::<Global>::decode_first_frame_into(alloc, bytes, place).is_err() {
         return Err(Fault::Memory);
     }
     if let Some(Frame::Message(message)) = &*place {

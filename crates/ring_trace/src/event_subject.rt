@@ -73,7 +73,7 @@ pub(crate) fn event_subject_of<A: Allocator + Copy>(line: &ScriptLine<A>) -> Opt
 /// Errors: `AllocError` if an allocation fails; a part may then have been appended.
 ///
 /// Formats: The command line
-pub(crate) fn write_what<A: Allocator + Copy>(
+pub(crate) fn write_event_description<A: Allocator + Copy>(
     what: &mut String<A>,
     trace_vocabulary: &TraceVocabulary,
     line: &ScriptLine<A>,

@@ -12,12 +12,12 @@ mod node_view;
 mod places;
 mod restoring;
 mod selection;
-mod sent;
+mod sent_calls;
 mod sent_frames;
 mod sides;
+mod trace_command;
 mod tracer;
-mod tracing;
 
-pub use ring_trace_formats::{Format, ReplyForm, ReplyVocabulary};
+pub use ring_trace_formats::{ReplyForm, ReplyVocabulary, TraceFormat};
 pub use selection::Selection;
-pub use tracing::{TraceOptions, trace, trace_of};
+pub use trace_command::{TraceOptions, trace, trace_of};

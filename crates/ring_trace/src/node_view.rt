@@ -51,7 +51,7 @@ impl NodeView {
         NodeView {
             state: State::Gather,
             ring: RingId { seq: 0, rep: node },
-            members: ProcSet::only(node),
+            members: ProcSet::singleton(node),
             committed: 0,
             trimmed: 0,
             log: 0,
@@ -113,11 +113,11 @@ impl NodeView {
         let is_committed = self.committed != before.committed;
         let is_restored = self.restored.is_some();
         let is_trimmed = self.is_trimmed(before);
-        add_if(changes, is_ring, self.ring_change(nodes))?;
-        add_if(changes, is_state, Change::State(self.state))?;
-        add_if(changes, is_committed, Change::Committed(self.committed))?;
-        add_if(changes, is_restored, self.restored_change())?;
-        add_if(changes, is_trimmed, Change::Trimmed(self.trimmed))
+        push_change_if(changes, is_ring, self.ring_change(nodes))?;
+        push_change_if(changes, is_state, Change::State(self.state))?;
+        push_change_if(changes, is_committed, Change::Committed(self.committed))?;
+        push_change_if(changes, is_restored, self.restored_change())?;
+        push_change_if(changes, is_trimmed, Change::Trimmed(self.trimmed))
     }
 
     /// Returns whether the node installed another ring.
@@ -169,7 +169,7 @@ impl NodeView {
     /// `is_sent` says whether the node has sent the call, or has it in its log if the node is alone in its ring.
     ///
     /// Formats: The command line
-    pub fn reason(&self, nodes: Fixed, is_sent: bool) -> WaitReason
+    pub fn wait_reason(&self, nodes: Fixed, is_sent: bool) -> WaitReason
         ensures { IsReason nodes self.now is_sent result }
     {
         let members = self.members;
@@ -187,7 +187,7 @@ impl NodeView {
 /// Adds a change if `is_told`.
 ///
 /// Errors: `Memory` if an allocation fails; nothing is added.
-fn add_if<A: Allocator>(
+fn push_change_if<A: Allocator>(
     changes: &mut Vec<Change, A>,
     is_told: bool,
     change: Change,

@@ -40,7 +40,7 @@ fn print_each_place<O: Object, W: Write>(
     sessions: &mut Sessions<O>,
     out: &mut W,
 ) -> Result<(), Failure> {
-    let number = longest_of(world)?.number();
+    let number = most_committed_node(world)?.number();
     let calls = world.committed(world.fixed().proc(number)?)?;
     for (place, call) in calls.iter().enumerate() {
         let answer = sessions.apply(call)?;
@@ -50,7 +50,7 @@ fn print_each_place<O: Object, W: Write>(
 }
 
 /// Returns the node with the greatest committed length, the first one if there are several.
-fn longest_of<O: Object>(world: &World<O>) -> Result<Proc, Fault> {
+fn most_committed_node<O: Object>(world: &World<O>) -> Result<Proc, Fault> {
     let nodes = world.fixed();
     let mut longest = nodes.proc(1)?;
     let mut length = 0;

@@ -6,7 +6,7 @@ ghost use Rattle.std.specs.Prelude.{◌≡◌, ◌≤◌, ◌↔◌, IsTrue};
 ghost use Rattle.ring_trace.specs.Selections.{all_events, IsOf};
 
 use ring_base::Proc;
-use ring_trace_formats::Format;
+use ring_trace_formats::TraceFormat;
 use std::fmt;
 
 /// The selection of the events to report: of one node or of all, with numbers in a range.
@@ -44,10 +44,10 @@ impl Selection {
     /// of events before it.
     ///
     /// Formats: The command line
-    pub fn has(&self, event: u64, at: Option<Proc>) -> bool
+    pub fn selects_event(&self, event: u64, at: Option<Proc>) -> bool
         ensures { IsTrue result ↔ ((self.now.from ≤ event) × (event ≤ self.now.to) × IsOf self.now.node at) }
     {
-        self.from <= event && event <= self.to && self.is_of(at)
+        self.from <= event && event <= self.to && self.selects_node(at)
     }
 
     /// Returns why the selection is empty for a script with `nodes` nodes, or isn't for the format.
@@ -55,10 +55,10 @@ impl Selection {
     /// A page always has the whole run. Returns `None` if there is no such fault.
     ///
     /// Formats: The command line
-    pub(crate) fn fault_of(&self, nodes: u8, format: Format) -> Option<SelectionFault> {
+    pub(crate) fn fault_of(&self, nodes: u8, format: TraceFormat) -> Option<SelectionFault> {
         let is_whole = self.node.is_none() && self.from == 0 && self.to == u64::MAX;
         match self.node {
-            _ if format == Format::Html && !is_whole => Some(SelectionFault::Page),
+            _ if format == TraceFormat::Html && !is_whole => Some(SelectionFault::Page),
             Some(node) if node.number() > nodes => Some(SelectionFault::Node {
                 node: node.number(),
                 nodes,
@@ -74,7 +74,7 @@ impl Selection {
     /// Returns the fault of a selection that begins after the last of `events` events, or `None` if it doesn't.
     ///
     /// Formats: The command line
-    pub(crate) fn fault_behind(&self, events: u64) -> Option<SelectionFault> {
+    pub(crate) fn fault_after_events(&self, events: u64) -> Option<SelectionFault> {
         if self.from <= events {
             return None;
         }
@@ -85,7 +85,7 @@ impl Selection {
     }
 
     /// Returns whether events at this node are reported.
-    fn is_of(&self, at: Option<Proc>) -> bool
+    fn selects_node(&self, at: Option<Proc>) -> bool
         ensures { IsTrue result ↔ IsOf self.now.node at }
     {
         match (self.node, at) {

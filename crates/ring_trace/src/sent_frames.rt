@@ -6,7 +6,7 @@ use ring_base::{Fault, Proc, ProcSet, RingId};
 use ring_console::World;
 use ring_counts::CountedFrame;
 use ring_object::Object;
-use ring_payload::{Content, Payload};
+use ring_payload::{Payload, WrappedPayload};
 use ring_trace_formats::DeliveryKind;
 use ring_wire::{Frame, Message};
 use std::alloc::Allocator;
@@ -36,7 +36,7 @@ pub(crate) struct SentFrame {
     /// The number of places that the snapshot replaces of which its message carries a piece, if it carries one.
     pub snapshot: Option<u64>,
     /// The nodes that received it.
-    given: ProcSet,
+    receivers_so_far: ProcSet,
 }
 
 /// The frames sent so far, in the order of sending.
@@ -79,13 +79,13 @@ impl<A: Allocator + Copy> SentFrames<A> {
     /// of a frame that wasn't sent, it yields `NotSent`.
     ///
     /// Formats: The command line
-    pub fn kind_of(&self, number: Option<u64>, node: Proc) -> DeliveryKind {
+    pub fn delivery_kind_of(&self, number: Option<u64>, node: Proc) -> DeliveryKind {
         let Some(frame) = number.and_then(|number| self.frame(number)) else {
             return DeliveryKind::NotSent;
         };
         if !frame.to.contains(node) {
             DeliveryKind::NotForNode
-        } else if frame.given.contains(node) {
+        } else if frame.receivers_so_far.contains(node) {
             DeliveryKind::Again
         } else if self.has_message_of(&frame, node) {
             DeliveryKind::KnownMessage
@@ -98,7 +98,7 @@ impl<A: Allocator + Copy> SentFrames<A> {
     fn has_message_of(&self, frame: &SentFrame, node: Proc) -> bool {
         let mut has_message = false;
         for other in &self.frames {
-            let has_other = other.from == node || other.given.contains(node);
+            let has_other = other.from == node || other.receivers_so_far.contains(node);
             has_message = has_message
                 || (frame.message.is_some() && other.message == frame.message && has_other);
         }
@@ -108,10 +108,10 @@ impl<A: Allocator + Copy> SentFrames<A> {
     /// Records that the node receives frame `number`.
     ///
     /// Formats: The command line
-    pub fn give(&mut self, number: u64, node: Proc) {
+    pub fn note_receipt(&mut self, number: u64, node: Proc) {
         let before = number.saturating_sub(1);
         if let Some(frame) = self.frames.get_mut(before as usize) {
-            let _ = frame.given.insert(node);
+            let _ = frame.receivers_so_far.insert(node);
         }
     }
 
@@ -120,7 +120,7 @@ impl<A: Allocator + Copy> SentFrames<A> {
     /// It is decoded into `place`.
     ///
     /// Errors: `Memory` if an allocation fails; nothing is added.
-    fn add(
+    fn push_decoded_frame(
         &mut self,
         alloc: A,
         bytes: &[u8],
@@ -129,7 +129,7 @@ impl<A: Allocator + Copy> SentFrames<A> {
     ) -> Result<(), Fault> {
         let begin = self.end();
         let rest = bytes.get(begin..).unwrap_or(&[]);
-        let Ok(length) = Frame::<A>::get_into(alloc, rest, place) else {
+        let Ok(length) = Frame::<A>::decode_first_frame_into(alloc, rest, place) else {
             return Err(Fault::Memory);
         };
         self.frames.push(SentFrame {
@@ -140,7 +140,7 @@ impl<A: Allocator + Copy> SentFrames<A> {
             message: message_in(place),
             counted: counted_in(place),
             snapshot: snapshot_in(place),
-            given: ProcSet::new(),
+            receivers_so_far: ProcSet::new(),
         })?;
         Ok(())
     }
@@ -182,7 +182,7 @@ fn add_each_frame<O: Object>(
         let Some(ends) = world.frame(sent.count().saturating_add(1)) else {
             return Ok(());
         };
-        sent.add(alloc, world.sent_text(), ends, place)?;
+        sent.push_decoded_frame(alloc, world.sent_text(), ends, place)?;
     }
     Ok(())
 }
@@ -218,7 +218,7 @@ fn snapshot_of<A: Allocator + Copy>(message: &Message<A>) -> Option<u64> {
     match &message.payload {
         Payload::Snap(snap) => Some(snap.at),
         Payload::Wrapped(wrapped) => match &wrapped.payload {
-            Content::Snap(snap) => Some(snap.at),
+            WrappedPayload::Snap(snap) => Some(snap.at),
             _ => None,
         },
         _ => None,

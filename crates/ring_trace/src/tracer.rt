@@ -10,12 +10,12 @@ ghost use Rattle.ring_console.specs.Running.{run_opening, IsLineDone, IsPumpDone
 
 use crate::counting::{CountedEvent, count_event};
 use crate::details::{input_of_line, input_of_turn, send_values};
-use crate::event_subject::{EventSubject, event_subject_of, write_turn, write_what};
+use crate::event_subject::{EventSubject, event_subject_of, write_event_description, write_turn};
 use crate::node_view::NodeView;
 use crate::places::print_places;
 use crate::restoring::restored_by;
 use crate::selection::{Selection, SelectionFault};
-use crate::sent::{sent_of, write_frames};
+use crate::sent_calls::{are_calls_sent, write_frames};
 use crate::sent_frames::{SentFrames, add_sent_frames};
 use crate::sides::sides_of;
 use ring_base::{Fault, Fixed, PROCESSORS, Proc, ProcSet, State};
@@ -23,8 +23,8 @@ use ring_console::{Failure, Groups, OpenCopy, Script, ScriptLine, ScriptRun};
 use ring_counts::{CountedInput, NodeCounts, NodeGauges};
 use ring_object::Object;
 use ring_trace_formats::{
-    Change, Counts, DeliveryKind, EventDetails, Fold, Format, InputValue, NodeTotals, SendValue,
-    Told, TracePicture, TracePrinter, TraceVocabulary, TracedEvent, TurnValue, WaitReason,
+    Change, DeliveryKind, EventDetails, Fold, InputValue, NodeTotals, RunCounts, SendValue, Told,
+    TraceFormat, TracePicture, TracePrinter, TraceVocabulary, TracedEvent, TurnValue, WaitReason,
     WaitingCall, WaitingCalls,
 };
 use std::alloc::Allocator;
@@ -56,12 +56,12 @@ pub(crate) struct Tracer<O: Object> {
     /// Whether the current event's node installed a ring in it.
     has_installed: bool,
     /// The number of the world's reports already handled.
-    told: usize,
+    handled_reports: usize,
     /// The number of events so far.
     events: u64,
     fold: Fold,
     /// The description of the current event.
-    what: String<O::Alloc>,
+    event_description: String<O::Alloc>,
     /// The input of the current event, unless it is a turn.
     input: Option<InputValue>,
     /// The length of the log of the event's node, if the event changed it.
@@ -114,10 +114,10 @@ impl<O: Object> Tracer<O> {
             queue: WaitingCalls::new(alloc),
             changes: Vec::new(alloc),
             has_installed: false,
-            told: 0,
+            handled_reports: 0,
             events: 0,
             fold: Fold::new(),
-            what: String::new(alloc),
+            event_description: String::new(alloc),
             input: None,
             log: None,
             sends: Vec::new(form.alloc),
@@ -148,9 +148,9 @@ impl<O: Object> Tracer<O> {
             (text_of (world_of O.sequential self.new.run.world_view).frames)) }
     {
         self.form.print_opening(out, self.nodes)?;
-        self.take(script, out)?;
+        self.trace_lines(script, out)?;
         self.print_fold_end(out)?;
-        *fault = self.selection.fault_behind(self.events);
+        *fault = self.selection.fault_after_events(self.events);
         if fault.is_some() {
             return Err(Failure::Output);
         }
@@ -161,18 +161,22 @@ impl<O: Object> Tracer<O> {
     /// Carries out all lines and reports their events.
     ///
     /// The run is that of the script.
-    fn take<W: Write>(&mut self, script: Script<O::Alloc>, out: &mut W) -> Result<(), Failure>
+    fn trace_lines<W: Write>(
+        &mut self,
+        script: Script<O::Alloc>,
+        out: &mut W,
+    ) -> Result<(), Failure>
         requires { AreFit script.lines.items }
         ensures { OnOk result ((text : List ℕ) × AreLinesDone O.sequential script.lines.items self.old.run self.new.run text) }
     {
         for numbered in script.lines {
-            self.take_line(numbered.line, out)?;
+            self.trace_line(numbered.line, out)?;
         }
         Ok(())
     }
 
     /// Carries out a line and reports its events.
-    fn take_line<W: Write>(
+    fn trace_line<W: Write>(
         &mut self,
         line: ScriptLine<O::Alloc>,
         out: &mut W,
@@ -195,7 +199,7 @@ impl<O: Object> Tracer<O> {
         self.run.cut(groups);
         self.print_fold_end(out)?;
         self.sides = sides_of(self.alloc, self.run.world().fixed(), groups)?;
-        if self.selection.has(self.events, None) {
+        if self.selection.selects_event(self.events, None) {
             self.form.print_cut(out, self.sides.as_slice())?;
             if self.form.format.has_picture() {
                 self.trace_picture
@@ -213,7 +217,7 @@ impl<O: Object> Tracer<O> {
         let is_cut = self.sides.len() > 1;
         self.sides.clear();
         self.print_fold_end(out)?;
-        if self.selection.has(self.events, None) {
+        if self.selection.selects_event(self.events, None) {
             self.form.print_heal(out)?;
             if self.form.format.has_picture() {
                 self.draw_heal(is_cut)?;
@@ -229,7 +233,7 @@ impl<O: Object> Tracer<O> {
         if is_cut {
             self.trace_picture.add_heal(self.events)
         } else {
-            self.trace_picture.add_nothing(self.events);
+            self.trace_picture.begin_empty_column(self.events);
             Ok(())
         }
     }
@@ -245,9 +249,9 @@ impl<O: Object> Tracer<O> {
     {
         let event_subject = event_subject_of(&line);
         let kind = self.kind_of(&event_subject);
-        self.describe(&line, kind)?;
+        self.store_description(&line, kind)?;
         self.foresee_line(&event_subject)?;
-        self.run.perform(line)?;
+        self.run.run_line_silently(line)?;
         match event_subject {
             Some(event_subject) => self.trace_event(&event_subject, out),
             None => Ok(()),
@@ -257,17 +261,29 @@ impl<O: Object> Tracer<O> {
     /// Returns the kind of delivery of an event's frame by a line `deliver`.
     fn kind_of(&self, event_subject: &Option<EventSubject>) -> DeliveryKind {
         match event_subject {
-            Some(event_subject) => self.sent.kind_of(event_subject.frame, event_subject.node),
+            Some(event_subject) => {
+                self.sent
+                    .delivery_kind_of(event_subject.frame, event_subject.node)
+            }
             None => DeliveryKind::First,
         }
     }
 
     /// Stores the description of a line's event, and its input if the format has details.
-    fn describe(&mut self, line: &ScriptLine<O::Alloc>, kind: DeliveryKind) -> Result<(), Fault>
+    fn store_description(
+        &mut self,
+        line: &ScriptLine<O::Alloc>,
+        kind: DeliveryKind,
+    ) -> Result<(), Fault>
         ensures { self.new.run ≡ self.old.run }
     {
-        self.what.clear();
-        write_what(&mut self.what, &self.trace_vocabulary, line, kind)?;
+        self.event_description.clear();
+        write_event_description(
+            &mut self.event_description,
+            &self.trace_vocabulary,
+            line,
+            kind,
+        )?;
         if self.form.format.has_details() {
             self.input = input_of_line(self.form.alloc, &self.trace_vocabulary, line, kind)?;
         }
@@ -284,7 +300,7 @@ impl<O: Object> Tracer<O> {
             };
             let is_heard = self.run.is_connected(pair.sender, pair.receiver);
             self.foresee_turn(pair, is_heard)?;
-            self.run.perform(ScriptLine::Pump { turns: 1 })?;
+            self.run.run_line_silently(ScriptLine::Pump { turns: 1 })?;
             self.trace_turn(pair, is_heard, out)?;
         }
         Ok(())
@@ -364,8 +380,11 @@ impl<O: Object> Tracer<O> {
             };
             return self.trace_event(&event_subject, out);
         }
-        if self.selection.has(self.events, Some(pair.receiver)) {
-            self.fold.add_lost();
+        if self
+            .selection
+            .selects_event(self.events, Some(pair.receiver))
+        {
+            self.fold.count_lost_copy();
             self.add_turn(pair, None)?;
         }
         Ok(())
@@ -386,8 +405,8 @@ impl<O: Object> Tracer<O> {
             node: pair.receiver.number(),
             frame: pair.frame,
             from: pair.sender.number(),
-            log: details.log,
-            sends: details.sends,
+            log: details.changed_log_len,
+            sends: details.sent_frames,
         })?;
         Ok(())
     }
@@ -400,8 +419,8 @@ impl<O: Object> Tracer<O> {
         let sends = mem::replace(&mut self.sends, Vec::new(self.form.alloc));
         EventDetails {
             input,
-            log: if is_event { self.log } else { None },
-            sends,
+            changed_log_len: if is_event { self.log } else { None },
+            sent_frames: sends,
         }
     }
 
@@ -416,20 +435,24 @@ impl<O: Object> Tracer<O> {
         self.begin_picture()?;
         self.events = self.events.saturating_add(1);
         if let Some(call) = &event_subject.call {
-            self.queue.add(call.behind(self.sent.count()))?;
+            self.queue
+                .push_waiting_call(call.resubmitted_after(self.sent.count()))?;
         }
         self.note_given(event_subject);
         let counted_event = self.counted_event(event_subject);
         let before = self.sent.count();
         self.note_sent()?;
         self.find_changes(event_subject)?;
-        let told = self.told;
+        let told = self.handled_reports;
         self.remove_answered()?;
         self.count_event(event_subject, counted_event, before, told);
-        if !self.selection.has(self.events, Some(event_subject.node)) {
+        if !self
+            .selection
+            .selects_event(self.events, Some(event_subject.node))
+        {
             return Ok(());
         }
-        let is_quiet = self.changes.is_empty() && self.told == told;
+        let is_quiet = self.changes.is_empty() && self.handled_reports == told;
         match event_subject.pair {
             Some(pair) if is_quiet => {
                 self.fold.add_frame(self.events, event_subject.node);
@@ -461,7 +484,7 @@ impl<O: Object> Tracer<O> {
         ensures { self.new.run ≡ self.old.run }
     {
         if let Some(number) = event_subject.frame {
-            self.sent.give(number, event_subject.node);
+            self.sent.note_receipt(number, event_subject.node);
         }
     }
 
@@ -555,7 +578,11 @@ impl<O: Object> Tracer<O> {
         ensures { self.new.run ≡ self.old.run }
     {
         for (before, node_view) in self.node_views.iter().enumerate() {
-            if before < PROCESSORS && self.selection.has(event, Some(Proc::new(before as u8 + 1))) {
+            if before < PROCESSORS
+                && self
+                    .selection
+                    .selects_event(event, Some(Proc::new(before as u8 + 1)))
+            {
                 let changes = node_view.changes(self.nodes);
                 self.trace_picture
                     .add_node_view(Proc::new(before as u8 + 1), changes.as_slice())?;
@@ -569,7 +596,7 @@ impl<O: Object> Tracer<O> {
         ensures { self.new.run ≡ self.old.run }
     {
         for call in self.queue.calls() {
-            if self.selection.has(event, Some(call.node)) {
+            if self.selection.selects_event(event, Some(call.node)) {
                 self.trace_picture.add_call(call, "a call that waits")?;
             }
         }
@@ -584,7 +611,7 @@ impl<O: Object> Tracer<O> {
         let traced_event = TracedEvent {
             event: self.events,
             node: event_subject.node,
-            what: self.what.as_str(),
+            description: self.event_description.as_str(),
         };
         self.trace_picture.add_event(
             &self.trace_vocabulary,
@@ -631,14 +658,17 @@ impl<O: Object> Tracer<O> {
         ensures { self.new.run ≡ self.old.run }
     {
         let told = self.run.world().told();
-        for one in told.iter().skip(self.told) {
+        for one in told.iter().skip(self.handled_reports) {
             match one {
-                Told::Answer(node, call, _) => self.queue.take(WaitingCall::of(*node, call, 0)),
+                Told::Answer(node, call, _) => {
+                    self.queue
+                        .remove_oldest_match(WaitingCall::of(*node, call, 0))
+                }
                 // Only the call that was just submitted can be refused.
                 Told::Refused(_, _, _) => self.queue.remove_newest(),
             }
         }
-        self.told = told.len();
+        self.handled_reports = told.len();
         Ok(())
     }
 
@@ -655,14 +685,16 @@ impl<O: Object> Tracer<O> {
             self.input = input_of_turn(event_subject);
         }
         if let Some(pair) = event_subject.pair {
-            self.what.clear();
-            write_turn(&mut self.what, pair).map_err(|_| Failure::Refused(Fault::Memory))?;
+            self.event_description.clear();
+            write_turn(&mut self.event_description, pair).map_err(|_| Failure::Refused(
+                Fault::Memory,
+            ))?;
         }
         let details = self.take_details(true);
         let traced_event = TracedEvent {
             event: self.events,
             node: event_subject.node,
-            what: self.what.as_str(),
+            description: self.event_description.as_str(),
         };
         let told = told_since(self.run.world().told(), told);
         let changes = self.changes.as_slice();
@@ -706,10 +738,10 @@ impl<O: Object> Tracer<O> {
     /// Prints the lines of the whole run: the counts, those of each node, the waiting calls, and for programs the
     /// committed places.
     fn print_last_lines<W: Write>(&self, out: &mut W) -> Result<(), Failure> {
-        if self.form.format == Format::Svg {
+        if self.form.format == TraceFormat::Svg {
             return Ok(());
         }
-        let counts = Counts {
+        let counts = RunCounts {
             events: self.events,
             frames: self.sent.count(),
         };
@@ -759,7 +791,7 @@ impl<O: Object> Tracer<O> {
         if calls.is_empty() {
             return Ok(());
         }
-        let are_sent = sent_of(self.alloc, self.run.world(), calls)?;
+        let are_sent = are_calls_sent(self.alloc, self.run.world(), calls)?;
         for (place, (waiting, is_sent)) in calls.iter().zip(are_sent.iter()).enumerate() {
             let is_logged = self.is_logged(waiting.node, calls.get(..place).unwrap_or(&[]))?;
             let why = self.reason(waiting.node, *is_sent, is_logged);
@@ -792,7 +824,7 @@ impl<O: Object> Tracer<O> {
     fn reason(&self, node: Proc, is_sent: bool, is_logged: bool) -> WaitReason {
         let place = usize::from(node.number()) - 1;
         match self.node_views.get(place) {
-            Some(node_view) => node_view.reason(
+            Some(node_view) => node_view.wait_reason(
                 self.nodes,
                 is_sent || (node_view.is_alone() && is_logged),
             ),

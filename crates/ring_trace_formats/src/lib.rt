@@ -3,13 +3,13 @@
 //! Formats: The command line
 #![tactic(auto)]
 
-mod form;
-mod text;
+mod text_format;
+mod trace_printer;
 
-pub use form::{Format, TracePrinter};
 pub use ring_trace_json::{EventDetails, InputValue, SendValue, TurnValue};
 pub use ring_trace_picture::TracePicture;
 pub use ring_trace_words::{
-    CallWords, Change, Counts, DeliveryKind, Fold, NodeTotals, ReplyForm, ReplyVocabulary, Told,
+    CallWords, Change, DeliveryKind, Fold, NodeTotals, ReplyForm, ReplyVocabulary, RunCounts, Told,
     TraceVocabulary, TracedEvent, VoteShare, WaitReason, WaitingCall, WaitingCalls,
 };
+pub use trace_printer::{TraceFormat, TracePrinter};

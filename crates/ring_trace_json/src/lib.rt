@@ -3,10 +3,10 @@
 //! Formats: The command line
 #![tactic(auto)]
 
-mod details;
-mod lines;
-mod printer;
-mod values;
+mod change_and_report_values;
+mod event_details;
+mod json_lines;
+mod json_printer;
 
-pub use details::{EventDetails, InputValue, SendValue, TurnValue};
-pub use printer::JsonPrinter;
+pub use event_details::{EventDetails, InputValue, SendValue, TurnValue};
+pub use json_printer::JsonPrinter;

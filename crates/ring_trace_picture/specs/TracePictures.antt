@@ -5,10 +5,10 @@ use Rattle.ring_base.specs.declared.state.State.TheVariants.{Operational}
 use Rattle.ring_trace_picture.specs.declared.mark.PictureMark.{PictureMark}
 use Rattle.ring_trace_picture.specs.declared.mark.PictureMark.TheVariants as mark
 use Rattle.ring_trace_picture.specs.declared.mark.LaneColour.TheVariants as colour
-use Rattle.ring_node_spec.specs.declared.told.Told.{Told}
-use Rattle.ring_node_spec.specs.declared.told.Told.TheVariants.{Answer, Refused}
-use Rattle.ring_trace_words.specs.declared.change.Change.{Change}
-use Rattle.ring_trace_words.specs.declared.change.Change.TheVariants as change
+use Rattle.ring_node_spec.specs.declared.client_report.Told.{Told}
+use Rattle.ring_node_spec.specs.declared.client_report.Told.TheVariants.{Answer, Refused}
+use Rattle.ring_trace_words.specs.declared.node_change.Change.{Change}
+use Rattle.ring_trace_words.specs.declared.node_change.Change.TheVariants as change
 use Rattle.ring_trace_words.specs.declared.waiting.WaitingCall.{WaitingCall}
 
 -- A submitted call.

@@ -2,7 +2,7 @@
 //!
 //! Formats: The command line
 
-use crate::arcs::CallArc;
+use crate::call_arcs::CallArc;
 use crate::canvas::{Band, Canvas};
 use crate::labels::LabelRows;
 use crate::lane::write_lane;
@@ -54,7 +54,7 @@ fn write_folds<W: Write>(
 ) -> io::Result<()> {
     for placed in placed {
         if let PictureMark::Rounds(_) = &placed.mark
-            && band.has(placed.column)
+            && band.has_column(placed.column)
         {
             write_fold(out, canvas, placed.column)?;
         }
@@ -90,10 +90,10 @@ fn write_call_names<W: Write, A: Allocator>(
 ) -> io::Result<()> {
     let mut rows = LabelRows::new();
     for arc in arcs {
-        if arc.node == lane && band.has(arc.from) {
+        if arc.node == lane && band.has_column(arc.from) {
             let width = call_width(arc.client, arc.number);
-            let x = canvas.fitted(band, canvas.x(arc.from), width);
-            if let Some(row) = rows.place(x, width) {
+            let x = canvas.fitted_text_x(band, canvas.x(arc.from), width);
+            if let Some(row) = rows.place_label(x, width) {
                 write_call_name(out, canvas, arc, x, row)?;
             }
         }
@@ -103,14 +103,14 @@ fn write_call_names<W: Write, A: Allocator>(
 
 /// Returns the width of a call's name.
 fn call_width(client: u32, number: u64) -> u64 {
-    digits(u64::from(client))
-        .saturating_add(digits(number))
+    digit_count(u64::from(client))
+        .saturating_add(digit_count(number))
         .saturating_mul(LETTER)
         .saturating_add(3)
 }
 
 /// Returns the number of digits of a number.
-fn digits(number: u64) -> u64 {
+fn digit_count(number: u64) -> u64 {
     let mut rest = number;
     let mut many = 1u64;
     for _ in 0..20 {
@@ -134,13 +134,13 @@ fn write_lengths<W: Write>(
     for placed in placed {
         let column = placed.column;
         match &placed.mark {
-            PictureMark::Committed { node, length } if *node == lane && band.has(column) => {
-                let width = digits(*length).saturating_mul(LETTER);
+            PictureMark::Committed { node, length } if *node == lane && band.has_column(column) => {
+                let width = digit_count(*length).saturating_mul(LETTER);
                 if rows.place_below(canvas.x(column), width.saturating_add(2)) {
                     write_committed(out, canvas, lane, *length, column)?;
                 }
             }
-            PictureMark::Trimmed(node) if *node == lane && band.has(column) => {
+            PictureMark::Trimmed(node) if *node == lane && band.has_column(column) => {
                 write_trimmed(out, canvas, lane, column)?;
             }
             _ => {}
@@ -158,7 +158,7 @@ fn write_walls<W: Write>(
 ) -> io::Result<()> {
     let mut rows = LabelRows::new();
     for placed in placed {
-        if band.has(placed.column) {
+        if band.has_column(placed.column) {
             write_wall_mark(out, canvas, band, placed, &mut rows)?;
         }
     }
@@ -179,12 +179,12 @@ fn write_wall_mark<W: Write>(
         PictureMark::Side { members, before } => {
             let width = side_width(*members);
             let begin = canvas.x(column).saturating_add(4);
-            let x = canvas.fitted(
+            let x = canvas.fitted_text_x(
                 band,
                 begin.saturating_add(before.saturating_mul(LETTER)),
                 width,
             );
-            match rows.place(x, width) {
+            match rows.place_label(x, width) {
                 Some(row) => write_side(out, x, *members, row),
                 None => Ok(()),
             }
@@ -192,7 +192,7 @@ fn write_wall_mark<W: Write>(
         PictureMark::Heal => {
             write_wall(out, canvas, column, "#38761d")?;
             let x = canvas.x(column).saturating_add(4);
-            match rows.place(x, 5 * LETTER) {
+            match rows.place_label(x, 5 * LETTER) {
                 Some(row) => write_heal(out, x, row),
                 None => Ok(()),
             }
@@ -203,11 +203,11 @@ fn write_wall_mark<W: Write>(
 
 /// Returns the width of the label of a side.
 fn side_width(members: ProcSet) -> u64 {
-    letters_of(members).saturating_mul(LETTER)
+    set_text_width(members).saturating_mul(LETTER)
 }
 
 /// Returns the number of letters that a set takes, its braces included.
-pub(crate) fn letters_of(set: ProcSet) -> u64 {
+pub(crate) fn set_text_width(set: ProcSet) -> u64 {
     let mut letters = 2u64;
     for node in set.iter() {
         letters = letters.saturating_add(if node.number() < 10 { 2 } else { 3 });
@@ -225,7 +225,7 @@ fn write_feet<W: Write>(
     for placed in placed {
         let column = placed.column;
         match &placed.mark {
-            _ if !band.has(column) => {}
+            _ if !band.has_column(column) => {}
             PictureMark::Rounds(rounds) => write_rounds(out, canvas, column, *rounds)?,
             PictureMark::Lost(lost) => write_lost(out, canvas, column, *lost)?,
             PictureMark::Event(event) => write_event(out, canvas, column, *event)?,

@@ -12,28 +12,28 @@ use ring_base::{MAX_PROCESSORS, Proc};
 const COLUMN: u64 = 16;
 
 /// The height of the space above all lanes, for the sides of cuts.
-const HEAD: u64 = 24;
+const SPACE_ABOVE_LANES: u64 = 24;
 
 /// The height of a lane: calls, a bar, and the committed length.
 const LANE: u64 = 56;
 
 /// The part of a lane above its bar.
-const ABOVE: u64 = 26;
+const SPACE_ABOVE_BAR: u64 = 26;
 
 /// The height of the space below all lanes: rounds, lost copies, and the events' numbers.
-const FOOT: u64 = 50;
+const SPACE_BELOW_LANES: u64 = 50;
 
 /// The width of the space left of a band.
 const MARGIN: u64 = 64;
 
 /// The width of the space right of a band's columns, for texts that begin in its last columns.
-const BEHIND: u64 = 80;
+const SPACE_RIGHT_OF_COLUMNS: u64 = 80;
 
 /// The width of a picture.
 const WIDTH: u64 = 1_200;
 
 /// The maximum number of columns of a band.
-const MOST: u64 = 66;
+const MAX_BAND_COLUMNS: u64 = 66;
 
 /// The height of the legend.
 const LEGEND: u64 = 92;
@@ -51,7 +51,7 @@ pub(crate) struct Canvas {
     /// The number of lanes, one for each node shown.
     pub lanes: u8,
     /// The number of the node with the first lane.
-    pub first: u8,
+    pub first_lane_node: u8,
 }
 
 /// A band of a picture: the columns from `begin` to below `end`, counted from 0.
@@ -69,7 +69,7 @@ pub(crate) struct Band {
 
 impl Band {
     /// Returns whether the band has this column.
-    pub fn has(self, column: u64) -> bool {
+    pub fn has_column(self, column: u64) -> bool {
         self.begin <= column && column < self.end
     }
 }
@@ -77,7 +77,7 @@ impl Band {
 impl Canvas {
     /// Returns the node whose lane has the index `before`, counted from 0.
     pub fn node(self, before: u8) -> Proc {
-        let number = self.first.saturating_add(before);
+        let number = self.first_lane_node.saturating_add(before);
         if 1 <= number && number <= MAX_PROCESSORS {
             Proc::new(number)
         } else {
@@ -94,27 +94,27 @@ impl Canvas {
     ///
     /// The node must have a lane.
     pub fn y(self, node: Proc) -> u64 {
-        let before = node.number().saturating_sub(self.first);
+        let before = node.number().saturating_sub(self.first_lane_node);
         u64::from(before)
             .saturating_mul(LANE)
-            .saturating_add(HEAD + ABOVE)
+            .saturating_add(SPACE_ABOVE_LANES + SPACE_ABOVE_BAR)
     }
 
     /// Returns the lower edge of the last lane, in the strip and in a band.
-    pub fn foot(self) -> u64 {
+    pub fn lanes_bottom(self) -> u64 {
         u64::from(self.lanes)
             .saturating_mul(LANE)
-            .saturating_add(HEAD)
+            .saturating_add(SPACE_ABOVE_LANES)
     }
 
     /// Returns the height of the strip, which is also that of a band.
     pub fn bottom(self) -> u64 {
-        self.foot().saturating_add(FOOT)
+        self.lanes_bottom().saturating_add(SPACE_BELOW_LANES)
     }
 
     /// Returns the number of bands, at least 1.
     pub fn bands(self) -> u64 {
-        (self.columns.saturating_sub(1) / MOST).saturating_add(1)
+        (self.columns.saturating_sub(1) / MAX_BAND_COLUMNS).saturating_add(1)
     }
 
     /// Returns the number of columns of a band, at most 66.
@@ -123,7 +123,11 @@ impl Canvas {
     fn columns_of_band(self) -> u64 {
         let bands = self.bands();
         let rounded = self.columns.saturating_add(bands).saturating_sub(1);
-        if bands == 0 { MOST } else { rounded / bands }
+        if bands == 0 {
+            MAX_BAND_COLUMNS
+        } else {
+            rounded / bands
+        }
     }
 
     /// Returns band `index`, counted from 0.
@@ -138,25 +142,26 @@ impl Canvas {
     }
 
     /// Returns the upper edge of a band in the picture.
-    pub fn top(self, band: Band) -> u64 {
+    pub fn band_top(self, band: Band) -> u64 {
         self.bottom().saturating_mul(band.index)
     }
 
     /// Returns the left edge of the bands in the picture.
-    pub fn left(self) -> u64 {
+    pub fn bands_left_edge(self) -> u64 {
         MARGIN
     }
 
     /// Returns the width of the part of the strip that a band shows: its columns, and the space to their right.
-    pub fn shown(self) -> u64 {
-        self.x(self.columns_of_band()).saturating_add(BEHIND)
+    pub fn band_view_width(self) -> u64 {
+        self.x(self.columns_of_band())
+            .saturating_add(SPACE_RIGHT_OF_COLUMNS)
     }
 
     /// Returns the left edge in the strip for a text of this width at `x` in a band.
     ///
     /// It is further left than `x` if the text would reach beyond the band.
-    pub fn fitted(self, band: Band, x: u64, width: u64) -> u64 {
-        let end = self.x(band.begin).saturating_add(self.shown());
+    pub fn fitted_text_x(self, band: Band, x: u64, width: u64) -> u64 {
+        let end = self.x(band.begin).saturating_add(self.band_view_width());
         x.min(end.saturating_sub(width)).max(self.x(band.begin))
     }
 

@@ -30,7 +30,7 @@ impl LabelRows {
     /// otherwise the upper one.
     ///
     /// Returns `None` if neither has room.
-    pub fn place(&mut self, x: u64, width: u64) -> Option<LabelRow> {
+    pub fn place_label(&mut self, x: u64, width: u64) -> Option<LabelRow> {
         let end = x.saturating_add(width);
         if self.lower <= x {
             self.lower = end;
@@ -43,7 +43,7 @@ impl LabelRows {
         None
     }
 
-    /// Places a label as `place` does, but only in the lower row.
+    /// Places a label as `place_label` does, but only in the lower row.
     ///
     /// Returns whether it was placed.
     pub fn place_below(&mut self, x: u64, width: u64) -> bool {

@@ -2,7 +2,7 @@
 //!
 //! Formats: The command line
 
-use crate::bands::letters_of;
+use crate::bands::set_text_width;
 use crate::canvas::{Band, Canvas};
 use crate::mark::{LaneColour, PictureMark, PlacedMark};
 use crate::shapes::{LETTER, write_bar, write_ring, write_stop};
@@ -16,7 +16,7 @@ struct LaneBox {
     /// The ring that the node installed at the beginning of the box, if any.
     ring: Option<(RingId, ProcSet)>,
     /// The first column.
-    from: u64,
+    first_column: u64,
 }
 
 /// The name of a ring that isn't written yet, since its maximum length depends on the next name of the lane.
@@ -43,7 +43,7 @@ pub(crate) fn write_lane<W: Write>(
     let mut last = LaneBox {
         colour: LaneColour::State(State::Gather),
         ring: None,
-        from: 0,
+        first_column: 0,
     };
     let mut label = None;
     for placed in placed {
@@ -53,7 +53,7 @@ pub(crate) fn write_lane<W: Write>(
                 last = LaneBox {
                     colour: *colour,
                     ring: None,
-                    from: placed.column,
+                    first_column: placed.column,
                 };
             }
             PictureMark::Ring {
@@ -77,13 +77,15 @@ fn write_last_box<W: Write>(
     label: &mut Option<RingLabel>,
 ) -> io::Result<()> {
     if last.colour == LaneColour::State(State::Stopped) {
-        if band.has(last.from) {
-            write_stop(out, canvas, lane, last.from)?;
+        if band.has_column(last.first_column) {
+            write_stop(out, canvas, lane, last.first_column)?;
         }
-        return write_label(out, canvas, lane, label, canvas.x(last.from));
+        return write_label(out, canvas, lane, label, canvas.x(last.first_column));
     }
     write_lane_box(out, canvas, band, lane, last, canvas.columns, label)?;
-    let end = canvas.x(band.begin).saturating_add(canvas.shown());
+    let end = canvas
+        .x(band.begin)
+        .saturating_add(canvas.band_view_width());
     write_label(out, canvas, lane, label, end)
 }
 
@@ -99,7 +101,7 @@ fn write_lane_box<W: Write>(
     to: u64,
     label: &mut Option<RingLabel>,
 ) -> io::Result<()> {
-    let from = lane_box.from.max(band.begin);
+    let from = lane_box.first_column.max(band.begin);
     let to = to.min(band.end);
     if from >= to {
         return Ok(());
@@ -128,7 +130,7 @@ fn write_label<W: Write>(
         return Ok(());
     };
     let room = end.saturating_sub(canvas.x(column)) / LETTER;
-    let has_members = letters_of(ring.1).saturating_add(5) <= room;
+    let has_members = set_text_width(ring.1).saturating_add(5) <= room;
     if has_members || room >= 4 {
         write_ring(out, canvas, lane, ring, column, has_members)?;
     }

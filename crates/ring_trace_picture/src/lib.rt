@@ -3,8 +3,8 @@
 //! Formats: The command line
 #![tactic(auto)]
 
-mod arcs;
 mod bands;
+mod call_arcs;
 mod canvas;
 mod labels;
 mod lane;

@@ -6,8 +6,8 @@ ghost use Rattle.std.specs.Prelude.{◌≡◌, OnOk, OnErr, IfErr};
 ghost use Rattle.ring_base.specs.declared.fault.Fault.TheVariants.{Memory};
 ghost use Rattle.ring_trace_picture.specs.PictureModels.{opening_picture, column_begun, mark_added};
 
-use crate::arcs::{ArcEnd, CallArc, CallArcs};
 use crate::bands::write_band;
+use crate::call_arcs::{ArcEnd, CallArc, CallArcs};
 use crate::canvas::Canvas;
 use crate::mark::{PictureMark, PlacedMark};
 use crate::shapes::{write_end, write_head, write_legend, write_rest};
@@ -30,11 +30,11 @@ pub struct Picture<A: Allocator> {
     alloc: A,
     nodes: Fixed,
     /// The node with the only lane, or `None` if each node has a lane.
-    only: Option<Proc>,
+    only_lane: Option<Proc>,
     columns: u64,
     placed: Vec<PlacedMark, A>,
     /// The first event that has no column, if there is one.
-    rest: Option<u64>,
+    first_left_out: Option<u64>,
     /// The arcs of the calls that have columns.
     arcs: CallArcs<A>,
 }
@@ -45,7 +45,7 @@ impl<A: Allocator> Model for Picture<A> {
 
     ghost Value = { PictureModel };
 
-    ghost view = { λ p. record { nodes = p.nodes; only = p.only; columns = p.columns; placed = p.placed.items; rest = p.rest } };
+    ghost view = { λ p. record { nodes = p.nodes; only = p.only_lane; columns = p.columns; placed = p.placed.items; rest = p.first_left_out } };
 
     ghost invariant = { λ p. p.columns ≤ 2000 };
 }
@@ -63,10 +63,10 @@ impl<A: Allocator + Copy> Picture<A> {
         Picture {
             alloc,
             nodes,
-            only,
+            only_lane: only,
             columns: 0,
             placed: Vec::new(alloc),
-            rest: None,
+            first_left_out: None,
             arcs: CallArcs::new(alloc),
         }
     }
@@ -76,13 +76,13 @@ impl<A: Allocator + Copy> Picture<A> {
     /// A picture has at most 2,000 columns: once an event has no column, all later marks are left out.
     ///
     /// Formats: The command line
-    pub fn begin(&mut self, event: u64)
+    pub fn begin_column(&mut self, event: u64)
         ensures { self.new ≡ column_begun self.old event }
     {
         if self.columns < MAX_COLUMNS {
             self.columns += 1;
         } else {
-            self.rest = Some(self.rest.unwrap_or(event));
+            self.first_left_out = Some(self.first_left_out.unwrap_or(event));
         }
     }
 
@@ -91,12 +91,12 @@ impl<A: Allocator + Copy> Picture<A> {
     /// Errors: `Memory` if an allocation fails; nothing is added.
     ///
     /// Formats: The command line
-    pub fn add(&mut self, mark: PictureMark) -> Result<(), Fault>
+    pub fn add_mark(&mut self, mark: PictureMark) -> Result<(), Fault>
         ensures ok { OnOk result (self.new ≡ mark_added self.old mark) }
         ensures err { OnErr result (self.new ≡ self.old) }
         ensures refused { IfErr result (λ fault. fault ≡ Memory) }
     {
-        if self.rest.is_none() {
+        if self.first_left_out.is_none() {
             let column = self.columns;
             self.placed.push(PlacedMark { column, mark })?;
         }
@@ -112,11 +112,11 @@ impl<A: Allocator + Copy> Picture<A> {
         ensures same { self.new ≡ self.old }
         ensures refused { IfErr result (λ fault. fault ≡ Memory) }
     {
-        if self.rest.is_some() {
+        if self.first_left_out.is_some() {
             return Ok(());
         }
         let title = String::from_str(self.alloc, what)?;
-        self.arcs.add(CallArc {
+        self.arcs.push_arc(CallArc {
             node: call.node,
             client: call.client,
             number: call.number,
@@ -133,8 +133,8 @@ impl<A: Allocator + Copy> Picture<A> {
     pub(crate) fn end_arc(&mut self, call: (Proc, u32, u64), end: ArcEnd, title: String<A>)
         ensures { self.new ≡ self.old }
     {
-        if self.rest.is_none() {
-            self.arcs.end(call, self.columns, end, title);
+        if self.first_left_out.is_none() {
+            self.arcs.end_open_arc(call, self.columns, end, title);
         }
     }
 
@@ -158,7 +158,7 @@ impl<A: Allocator + Copy> Picture<A> {
             )?;
         }
         write_legend(out, canvas)?;
-        if let Some(event) = self.rest {
+        if let Some(event) = self.first_left_out {
             write_rest(out, canvas, event, last)?;
         }
         write_end(out)
@@ -167,16 +167,16 @@ impl<A: Allocator + Copy> Picture<A> {
     /// Returns the size of the picture.
     fn canvas(&self) -> Canvas {
         let columns = self.columns.saturating_add(1);
-        match self.only {
+        match self.only_lane {
             Some(only) => Canvas {
                 columns,
                 lanes: 1,
-                first: only.number(),
+                first_lane_node: only.number(),
             },
             None => Canvas {
                 columns,
                 lanes: self.nodes.count(),
-                first: 1,
+                first_lane_node: 1,
             },
         }
     }

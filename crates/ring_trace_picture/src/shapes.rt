@@ -2,7 +2,7 @@
 //!
 //! Formats: The command line
 
-use crate::arcs::{ArcEnd, CallArc};
+use crate::call_arcs::{ArcEnd, CallArc};
 use crate::canvas::{Band, Canvas};
 use crate::labels::LabelRow;
 use crate::mark::LaneColour;
@@ -52,8 +52,8 @@ pub(crate) fn write_head<W: Write>(out: &mut W, canvas: Canvas) -> io::Result<()
 pub(crate) fn write_band_head<W: Write>(out: &mut W, canvas: Canvas, band: Band) -> io::Result<()> {
     write_view(
         out,
-        (canvas.left(), canvas.top(band)),
-        (canvas.x(band.begin), canvas.shown()),
+        (canvas.bands_left_edge(), canvas.band_top(band)),
+        (canvas.x(band.begin), canvas.band_view_width()),
         canvas.bottom(),
     )
 }
@@ -132,7 +132,7 @@ pub(crate) fn write_name<W: Write>(
     band: Band,
     node: Proc,
 ) -> io::Result<()> {
-    let lane = canvas.top(band).saturating_add(canvas.y(node));
+    let lane = canvas.band_top(band).saturating_add(canvas.y(node));
     let y = lane.saturating_add(BASE);
     write_text(
         out,
@@ -366,7 +366,7 @@ pub(crate) fn write_wall<W: Write>(
     column: u64,
     stroke: &str,
 ) -> io::Result<()> {
-    let (x, foot) = (canvas.x(column), canvas.foot());
+    let (x, foot) = (canvas.x(column), canvas.lanes_bottom());
     writeln!(
         out,
         "<line x1=\"{x}\" y1=\"4\" x2=\"{x}\" y2=\"{foot}\" stroke=\"{stroke}\" stroke-width=\"2\"/>"
@@ -412,7 +412,7 @@ fn base_of(row: LabelRow) -> u64 {
 ///
 /// Formats: The command line
 pub(crate) fn write_fold<W: Write>(out: &mut W, canvas: Canvas, column: u64) -> io::Result<()> {
-    let (x, width, foot) = (canvas.x(column), canvas.x(1), canvas.foot());
+    let (x, width, foot) = (canvas.x(column), canvas.x(1), canvas.lanes_bottom());
     let height = foot.saturating_sub(20);
     writeln!(
         out,
@@ -436,7 +436,7 @@ pub(crate) fn write_rounds<W: Write>(
     if rounds == 0 {
         return Ok(());
     }
-    let below = (canvas.x(column), canvas.foot().saturating_add(11));
+    let below = (canvas.x(column), canvas.lanes_bottom().saturating_add(11));
     write_text(out, below, " fill=\"#666666\"", format_args!("x{rounds}"))
 }
 
@@ -456,7 +456,7 @@ pub(crate) fn write_lost<W: Write>(
     if lost == 0 {
         return Ok(());
     }
-    let below = (canvas.x(column), canvas.foot().saturating_add(22));
+    let below = (canvas.x(column), canvas.lanes_bottom().saturating_add(22));
     write_text(out, below, " fill=\"#cc0000\"", format_args!("-{lost}"))
 }
 
@@ -482,7 +482,7 @@ pub(crate) fn write_event<W: Write>(
     } else {
         33
     };
-    let below = (canvas.x(column), canvas.foot().saturating_add(row));
+    let below = (canvas.x(column), canvas.lanes_bottom().saturating_add(row));
     write_text(out, below, " font-size=\"9\" fill=\"#666666\"", event)
 }
 

@@ -9,8 +9,8 @@ ghost use Rattle.ring_trace_picture.specs.PictureModels.{opening_picture, column
 ghost use Rattle.ring_trace_picture.specs.TracePictures.{submit_mark, change_marks, outcome_mark, event_marks};
 ghost use Rattle.ring_failure.specs.Failures.{IsOutputOrMemory};
 
-use crate::arcs::ArcEnd;
-use crate::bands::letters_of;
+use crate::bands::set_text_width;
+use crate::call_arcs::ArcEnd;
 use crate::mark::{LaneColour, PictureMark};
 use crate::picture::Picture;
 use ring_base::{Fault, Fixed, Proc, ProcSet, State};
@@ -72,7 +72,7 @@ impl<A: Allocator + Copy> TracePicture<A> {
         ensures refused { IfErr result (λ fault. fault ≡ Memory) }
     {
         self.picture.begin_arc(call, what)?;
-        self.picture.add(PictureMark::Submit {
+        self.picture.add_mark(PictureMark::Submit {
             node: call.node,
             client: call.client,
             number: call.number,
@@ -102,10 +102,11 @@ impl<A: Allocator + Copy> TracePicture<A> {
             (event_marks traced_event.now.event traced_event.now.node submitted.now changes.now told.now)) }
         ensures refused { IfErr result (λ fault. fault ≡ Memory) }
     {
-        self.picture.begin(traced_event.event);
-        self.picture.add(PictureMark::Event(traced_event.event))?;
+        self.picture.begin_column(traced_event.event);
+        self.picture
+            .add_mark(PictureMark::Event(traced_event.event))?;
         if let Some(call) = submitted {
-            self.add_call(call, traced_event.what)?;
+            self.add_call(call, traced_event.description)?;
         }
         self.add_node_view(traced_event.node, changes)?;
         self.add_outcomes(trace_vocabulary, told)
@@ -134,7 +135,7 @@ impl<A: Allocator + Copy> TracePicture<A> {
         ensures refused { IfErr result (λ fault. fault ≡ Memory) }
     {
         match change {
-            Change::State(state) => self.colour(node, LaneColour::State(*state)),
+            Change::State(state) => self.mark_lane_colour(node, LaneColour::State(*state)),
             Change::Ring {
                 ring,
                 members,
@@ -145,30 +146,31 @@ impl<A: Allocator + Copy> TracePicture<A> {
                 } else {
                     LaneColour::Minority
                 };
-                self.colour(node, colour)?;
-                self.picture.add(PictureMark::Ring {
+                self.mark_lane_colour(node, colour)?;
+                self.picture.add_mark(PictureMark::Ring {
                     node,
                     ring: *ring,
                     members: *members,
                 })
             }
-            Change::Committed(length) => self.picture.add(PictureMark::Committed {
+            Change::Committed(length) => self.picture.add_mark(PictureMark::Committed {
                 node,
                 length: *length,
             }),
             Change::Trimmed(0) => Ok(()),
             Change::Trimmed(_) | Change::Restored(_) => self
                 .picture
-                .add(PictureMark::Trimmed(node)),
+                .add_mark(PictureMark::Trimmed(node)),
         }
     }
 
     /// Gives the node's lane this colour from the last column on.
-    fn colour(&mut self, node: Proc, colour: LaneColour) -> Result<(), Fault>
+    fn mark_lane_colour(&mut self, node: Proc, colour: LaneColour) -> Result<(), Fault>
         ensures ok { OnOk result (self.new.picture ≡ mark_added self.old.picture (ShadeMark node colour)) }
         ensures refused { IfErr result (λ fault. fault ≡ Memory) }
     {
-        self.picture.add(PictureMark::LaneColour { node, colour })
+        let mark = PictureMark::LaneColour { node, colour };
+        self.picture.add_mark(mark)
     }
 
     /// Draws a node's report on a call, which no longer waits.
@@ -185,14 +187,15 @@ impl<A: Allocator + Copy> TracePicture<A> {
             told,
         };
         let title = format!(in self.alloc; "{words}")?;
-        self.picture.end_arc(call_in(told), arc_end_of(told), title);
+        self.picture
+            .end_arc(reported_call(told), arc_end_of(told), title);
         match told {
-            Told::Answer(node, call, _) => self.picture.add(PictureMark::Answer {
+            Told::Answer(node, call, _) => self.picture.add_mark(PictureMark::Answer {
                 node: *node,
                 client: call.client,
                 number: call.number,
             }),
-            Told::Refused(node, call, _) => self.picture.add(PictureMark::Answer {
+            Told::Refused(node, call, _) => self.picture.add_mark(PictureMark::Answer {
                 node: *node,
                 client: call.client,
                 number: call.number,
@@ -210,9 +213,9 @@ impl<A: Allocator + Copy> TracePicture<A> {
             mark_added (mark_added (column_begun self.old.picture fold.now.first) (Rounds fold.now.rounds)) (Lost fold.now.lost)) }
         ensures refused { IfErr result (λ fault. fault ≡ Memory) }
     {
-        self.picture.begin(fold.first);
-        self.picture.add(PictureMark::Rounds(fold.rounds))?;
-        self.picture.add(PictureMark::Lost(fold.lost))
+        self.picture.begin_column(fold.first);
+        self.picture.add_mark(PictureMark::Rounds(fold.rounds))?;
+        self.picture.add_mark(PictureMark::Lost(fold.lost))
     }
 
     /// Draws a cut into these groups into a column of its own.
@@ -226,18 +229,18 @@ impl<A: Allocator + Copy> TracePicture<A> {
     pub fn add_cut(&mut self, events: u64, groups: &[ProcSet]) -> Result<(), Fault>
         ensures { IfErr result (λ fault. fault ≡ Memory) }
     {
-        self.picture.begin(events);
+        self.picture.begin_column(events);
         if groups.len() < 2 {
             return Ok(());
         }
-        self.picture.add(PictureMark::Cut)?;
+        self.picture.add_mark(PictureMark::Cut)?;
         let mut before = 0u64;
         for group in groups {
-            self.picture.add(PictureMark::Side {
+            self.picture.add_mark(PictureMark::Side {
                 members: *group,
                 before,
             })?;
-            before = before.saturating_add(letters_of(*group));
+            before = before.saturating_add(set_text_width(*group));
         }
         Ok(())
     }
@@ -253,8 +256,8 @@ impl<A: Allocator + Copy> TracePicture<A> {
         ensures ok { OnOk result (self.new.picture ≡ mark_added (column_begun self.old.picture events) Heal) }
         ensures refused { IfErr result (λ fault. fault ≡ Memory) }
     {
-        self.picture.begin(events);
-        self.picture.add(PictureMark::Heal)
+        self.picture.begin_column(events);
+        self.picture.add_mark(PictureMark::Heal)
     }
 
     /// Begins an empty column.
@@ -262,10 +265,10 @@ impl<A: Allocator + Copy> TracePicture<A> {
     /// `events` is the number of events before it.
     ///
     /// Formats: The command line
-    pub fn add_nothing(&mut self, events: u64)
+    pub fn begin_empty_column(&mut self, events: u64)
         ensures { self.new.picture ≡ column_begun self.old.picture events }
     {
-        self.picture.begin(events);
+        self.picture.begin_column(events);
     }
 
     /// Writes the picture as SVG.
@@ -290,7 +293,7 @@ impl<A: Allocator + Copy> TracePicture<A> {
 }
 
 /// Returns the node and the call of a report.
-fn call_in<A: Allocator + Copy>(told: &Told<A>) -> (Proc, u32, u64) {
+fn reported_call<A: Allocator + Copy>(told: &Told<A>) -> (Proc, u32, u64) {
     match told {
         Told::Answer(node, call, _) => (*node, call.client, call.number),
         Told::Refused(node, call, _) => (*node, call.client, call.number),

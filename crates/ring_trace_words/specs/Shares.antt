@@ -4,7 +4,7 @@
 use Rattle.std.specs.Prelude.{ℕ}
 use Rattle.std.specs.List.{sum}
 use Rattle.ring_base.specs.Group.{Group, votes_in, is_primary}
-use Rattle.ring_trace_words.specs.declared.share.VoteShare.{VoteShare}
+use Rattle.ring_trace_words.specs.declared.vote_share.VoteShare.{VoteShare}
 
 -- The votes of the set's members, all votes, and whether the set is primary.
 abbrev pub vote_share : Group → ℕ → VoteShare

@@ -16,25 +16,25 @@ pub(crate) struct ArgumentWords<'a> {
     /// The bytes, which must be exactly the encodings of these arguments.
     pub bytes: &'a [u8],
     /// Whether a space comes before the first argument, too.
-    pub is_behind: bool,
+    pub has_leading_space: bool,
 }
 
 impl fmt::Display for ArgumentWords<'_> {
     fn fmt<W: fmt::Write>(&self, f: &mut fmt::Formatter<W>) -> fmt::Result {
         let mut rest = self.bytes;
-        let mut is_behind = self.is_behind;
+        let mut has_leading_space = self.has_leading_space;
         for argument in self.arguments {
-            let length = length_in(*argument, rest);
-            if is_behind {
+            let length = argument_len_in(*argument, rest);
+            if has_leading_space {
                 f.write_str(" ")?;
             }
             let bytes = rest.get(..length).unwrap_or(&[]);
             match argument {
-                Argument::Key | Argument::Value => write!(f, "{}", value_in(bytes))?,
+                Argument::Key | Argument::Value => write!(f, "{}", big_endian_value(bytes))?,
                 Argument::Name => f.write_str(str::from_utf8(bytes).unwrap_or(""))?,
             }
             rest = rest.get(length..).unwrap_or(&[]);
-            is_behind = true;
+            has_leading_space = true;
         }
         Ok(())
     }
@@ -57,7 +57,11 @@ impl fmt::Display for RawWords<'_> {
 }
 
 /// Returns whether the bytes are the prefix `first` and then exactly these arguments, with no byte left over.
-pub(crate) fn is_form(first: &[u8], arguments: &[Argument], bytes: &[u8]) -> bool {
+pub(crate) fn fits_prefix_and_arguments(
+    first: &[u8],
+    arguments: &[Argument],
+    bytes: &[u8],
+) -> bool {
     bytes.starts_with(first) && are_arguments(arguments, bytes.get(first.len()..).unwrap_or(&[]))
 }
 
@@ -65,7 +69,7 @@ pub(crate) fn is_form(first: &[u8], arguments: &[Argument], bytes: &[u8]) -> boo
 fn are_arguments(arguments: &[Argument], bytes: &[u8]) -> bool {
     let mut rest = bytes;
     for argument in arguments {
-        let length = length_in(*argument, rest);
+        let length = argument_len_in(*argument, rest);
         if rest.len() < length || (*argument == Argument::Name && !is_name(rest)) {
             return false;
         }
@@ -77,7 +81,7 @@ fn are_arguments(arguments: &[Argument], bytes: &[u8]) -> bool {
 /// Returns the length of the argument that these bytes begin with.
 ///
 /// A name takes all of them.
-fn length_in(argument: Argument, bytes: &[u8]) -> usize {
+fn argument_len_in(argument: Argument, bytes: &[u8]) -> usize {
     match argument {
         Argument::Key => 1,
         Argument::Value => 8,
@@ -86,7 +90,7 @@ fn length_in(argument: Argument, bytes: &[u8]) -> usize {
 }
 
 /// Returns the number that eight bytes or fewer encode, big-endian.
-fn value_in(bytes: &[u8]) -> u64 {
+fn big_endian_value(bytes: &[u8]) -> u64 {
     let mut value = 0u64;
     for byte in bytes {
         value = value << 8 | u64::from(*byte);

@@ -3,7 +3,7 @@
 //! Formats: The command line
 
 ghost use Rattle.std.specs.Prelude.{◌≡◌, ◌↔◌, IsTrue};
-ghost use Rattle.ring_base.specs.Numbers.{following};
+ghost use Rattle.ring_base.specs.Numbers.{saturating_successor};
 ghost use Rattle.ring_trace_words.specs.Folds.{IsEmpty, HasFrame};
 
 use ring_base::Proc;
@@ -85,8 +85,8 @@ impl Fold {
     /// The count saturates at `u64::MAX`.
     ///
     /// Formats: The command line
-    pub fn add_lost(&mut self)
-        ensures { self.new ≡ record self.old { lost = following self.old.lost } }
+    pub fn count_lost_copy(&mut self)
+        ensures { self.new ≡ record self.old { lost = saturating_successor self.old.lost } }
     {
         self.lost = self.lost.saturating_add(1);
     }
@@ -94,20 +94,20 @@ impl Fold {
 
 /// A number, displayed with the name of what is counted.
 #[derive(Clone, Copy)]
-struct CountedThings {
+struct CountWithName {
     number: u64,
     /// The name in the singular.
-    one: &'static str,
+    singular: &'static str,
     /// The name in the plural.
-    many: &'static str,
+    plural: &'static str,
 }
 
-impl fmt::Display for CountedThings {
+impl fmt::Display for CountWithName {
     fn fmt<W: fmt::Write>(&self, f: &mut fmt::Formatter<W>) -> fmt::Result {
         let name = if self.number == 1 {
-            self.one
+            self.singular
         } else {
-            self.many
+            self.plural
         };
         write!(f, "{} {name}", self.number)
     }
@@ -116,10 +116,10 @@ impl fmt::Display for CountedThings {
 /// Displays the line, without its line feed.
 impl fmt::Display for Fold {
     fn fmt<W: fmt::Write>(&self, f: &mut fmt::Formatter<W>) -> fmt::Result {
-        let lost = CountedThings {
+        let lost = CountWithName {
             number: self.lost,
-            one: "copy lost",
-            many: "copies lost",
+            singular: "copy lost",
+            plural: "copies lost",
         };
         if self.frames == 0 {
             return write!(f, "{lost}");
@@ -139,15 +139,15 @@ impl Fold {
         if self.first < self.last {
             write!(f, "-{}", self.last)?;
         }
-        let rounds = CountedThings {
+        let rounds = CountWithName {
             number: self.rounds,
-            one: "round",
-            many: "rounds",
+            singular: "round",
+            plural: "rounds",
         };
-        let frames = CountedThings {
+        let frames = CountWithName {
             number: self.frames,
-            one: "frame",
-            many: "frames",
+            singular: "frame",
+            plural: "frames",
         };
         write!(f, ": {rounds}, {frames}")
     }

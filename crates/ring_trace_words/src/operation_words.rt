@@ -2,7 +2,7 @@
 //!
 //! Formats: Scripts; The command line
 
-use crate::argument_words::{ArgumentWords, RawWords, is_form};
+use crate::argument_words::{ArgumentWords, RawWords, fits_prefix_and_arguments};
 use crate::trace_vocabulary::TraceVocabulary;
 use std::fmt;
 
@@ -20,11 +20,11 @@ pub struct OperationWords<'a> {
 impl fmt::Display for OperationWords<'_> {
     fn fmt<W: fmt::Write>(&self, f: &mut fmt::Formatter<W>) -> fmt::Result {
         for form in self.trace_vocabulary.operations {
-            if is_form(form.first, form.arguments, self.operation) {
+            if fits_prefix_and_arguments(form.first, form.arguments, self.operation) {
                 let words = ArgumentWords {
                     arguments: form.arguments,
                     bytes: self.operation.get(form.first.len()..).unwrap_or(&[]),
-                    is_behind: true,
+                    has_leading_space: true,
                 };
                 return write!(f, "{}{words}", form.word);
             }

@@ -2,7 +2,7 @@
 //!
 //! Formats: The command line
 
-use crate::argument_words::{ArgumentWords, RawWords, is_form};
+use crate::argument_words::{ArgumentWords, RawWords, fits_prefix_and_arguments};
 use crate::trace_vocabulary::TraceVocabulary;
 use std::fmt;
 
@@ -23,12 +23,12 @@ impl fmt::Display for ReplyWords<'_> {
     fn fmt<W: fmt::Write>(&self, f: &mut fmt::Formatter<W>) -> fmt::Result {
         for form in self.trace_vocabulary.replies {
             if self.operation.starts_with(form.operation)
-                && is_form(form.first, form.arguments, self.reply)
+                && fits_prefix_and_arguments(form.first, form.arguments, self.reply)
             {
                 let words = ArgumentWords {
                     arguments: form.arguments,
                     bytes: self.reply.get(form.first.len()..).unwrap_or(&[]),
-                    is_behind: !form.word.is_empty(),
+                    has_leading_space: !form.word.is_empty(),
                 };
                 return write!(f, "{}{words}", form.word);
             }

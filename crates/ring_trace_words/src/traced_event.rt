@@ -14,14 +14,14 @@ pub struct TracedEvent<'a> {
     /// The node at which it happens.
     pub node: Proc,
     /// The description of the event, without its number (WHAT in FORMATS).
-    pub what: &'a str,
+    pub description: &'a str,
 }
 
 /// The numbers of events and frames of a whole run, which end a trace.
 ///
 /// Formats: The command line
 #[derive(Clone, Copy)]
-pub struct Counts {
+pub struct RunCounts {
     /// The number of events.
     pub events: u64,
     /// The number of frames sent by all nodes.

@@ -44,7 +44,7 @@ impl WaitingCall {
     /// Returns the same call, but as submitted after `frames` frames.
     ///
     /// Formats: The command line
-    pub fn behind(&self, frames: u64) -> WaitingCall
+    pub fn resubmitted_after(&self, frames: u64) -> WaitingCall
         ensures { result ≡ record self.now { frames = frames } }
     {
         WaitingCall {
@@ -97,7 +97,7 @@ impl<A: Allocator + Copy> WaitingCalls<A> {
     /// Adds a call at the end.
     ///
     /// Errors: `Memory` if an allocation fails; nothing is added.
-    pub fn add(&mut self, call: WaitingCall) -> Result<(), Fault>
+    pub fn push_waiting_call(&mut self, call: WaitingCall) -> Result<(), Fault>
         ensures ok { OnOk result (self.new ≡ self.old ++ call ∷ []) }
         ensures err { OnErr result (self.new ≡ self.old) }
         ensures refused { IfErr result (λ fault. fault ≡ Memory) }
@@ -120,24 +120,26 @@ impl<A: Allocator + Copy> WaitingCalls<A> {
     /// If there is none, nothing changes.
     ///
     /// Formats: The command line
-    pub fn take(&mut self, call: WaitingCall)
+    pub fn remove_oldest_match(&mut self, call: WaitingCall)
         ensures { self.new ≡ without call self.old }
     {
-        if let Some(place) = place_of(&self.calls, &call) {
+        if let Some(place) = waiting_call_index(&self.calls, &call) {
             let _ = self.calls.remove(place);
         }
     }
 }
 
 /// Returns the index of the first call with the same node, client and number as `call`, or `None` if there is none.
-fn place_of(calls: &[WaitingCall], call: &WaitingCall) -> Option<usize>
+fn waiting_call_index(calls: &[WaitingCall], call: &WaitingCall) -> Option<usize>
     ensures { result ≡ position (is_same call.now) calls.now }
 {
-    calls.iter().position(|waiting| is_same(call, waiting))
+    calls
+        .iter()
+        .position(|waiting| is_same_waiting_call(call, waiting))
 }
 
 /// Returns whether the two have the same node, client and number.
-fn is_same(one: &WaitingCall, other: &WaitingCall) -> bool
+fn is_same_waiting_call(one: &WaitingCall, other: &WaitingCall) -> bool
     ensures { result ≡ is_same one.now other.now }
 {
     one.node == other.node && one.client == other.client && one.number == other.number

@@ -4,15 +4,15 @@ use Rattle.std.proofs.Common.{length, take, filter, Option, refl, ap, ◌∙◌,
 use Rattle.std.specs.Prelude.{not, slice_index}
 use Rattle.std.proofs.lemmas.Bool.{cases_lt, cond-true, cond-false}
 use Rattle.std.proofs.lemmas.List.{append-nil, ext_get_or, length_push}
-use Rattle.ring_base.specs.Numbers.{numbers_from, word_of}
+use Rattle.ring_base.specs.Numbers.{numbers_from, word_from_test}
 use Rattle.ring_wire.specs.declared.message.Message.{Message}
-use Rattle.ring_window.specs.Bits.{is_set, IsFirstClear, bytes_of, held_bits}
+use Rattle.ring_window.specs.Bits.{is_set, IsFirstClear, bytes_from_bits, held_bits}
 use Rattle.ring_window.specs.Held.{holds, front_of}
 use Rattle.ring_window.specs.Windows.{WindowHistory, first_missing}
-use Rattle.ring_window.specs.Places.{IsWindow}
+use Rattle.ring_window.specs.Slots.{IsWindow}
 use Rattle.ring_window.proofs.Bits.{byte_at}
 use Rattle.ring_window.proofs.HeldFront.{front_is}
-use Rattle.ring_window.proofs.WordBits.{word_of-same}
+use Rattle.ring_window.proofs.WordBits.{word_from_test-same}
 
 -- Numbers that fail the test are left out.
 passed : (p : ℕ → Bool) (first count k : ℕ) → k ≤ count → ((n : ℕ) → first ≤ n → n < first + k → p n ≡ false)
@@ -60,9 +60,9 @@ pub record IsCounted {A : Type 0} (w : WindowHistory A) (words : List ℕ) (upto
   pub clear : is_set words offset ≡ false
   pub so_far : found ++ take (32 - length found) (lacks w offset (end - offset)) ≡ first_missing w upto
 
-pub length-bytes_of : (test : ℕ → Bool) (first count : ℕ) → length (bytes_of test first count) ≡ count
-length-bytes_of test first zero = refl
-length-bytes_of test first (suc count) = ap suc (length-bytes_of test (first + 8) count)
+pub length-bytes_from_bits : (test : ℕ → Bool) (first count : ℕ) → length (bytes_from_bits test first count) ≡ count
+length-bytes_from_bits test first zero = refl
+length-bytes_from_bits test first (suc count) = ap suc (length-bytes_from_bits test (first + 8) count)
 
 module _ {A : Type 0} (w : WindowHistory A) (front top : ℕ) (words : List ℕ) (places : List (Option (Message A))) (i : IsWindow w front top words places) where
   -- The search begins after the front.
@@ -113,13 +113,13 @@ module _ {A : Type 0} (w : WindowHistory A) (front top : ℕ) (words : List ℕ)
       }
 
   -- The bits of a commit entry.
-  pub bits_given : (bytes : List ℕ) → length bytes ≡ 32 → ((k : ℕ) → k < 32 → slice_index bytes k ≡ word_of (is_set words) (front - w.mark + 8 * k) 8)
+  pub bits_given : (bytes : List ℕ) → length bytes ≡ 32 → ((k : ℕ) → k < 32 → slice_index bytes k ≡ word_from_test (is_set words) (front - w.mark + 8 * k) 8)
       → bytes ≡ held_bits w.held w.ring
   bits_given bytes count given =
       let first = front_of w.held w.ring + 1 in
-      ext_get_or 0 bytes (bytes_of (holds w.held w.ring) first 32) (count ∙ sym (length-bytes_of (holds w.held w.ring) first 32)) (λ k l.
+      ext_get_or 0 bytes (bytes_from_bits (holds w.held w.ring) first 32) (count ∙ sym (length-bytes_from_bits (holds w.held w.ring) first 32)) (λ k l.
       given k (omega arith)
-      ∙ word_of-same (is_set words) (holds w.held w.ring) (front - w.mark + 8 * k) (first + 8 * k) 8
+      ∙ word_from_test-same (is_set words) (holds w.held w.ring) (front - w.mark + 8 * k) (first + 8 * k) 8
       (λ j m. (let e : w.mark + 1 + (front - w.mark + 8 * k + j) ≡ first + 8 * k + j = omega (
         arith,
         i.front_is,

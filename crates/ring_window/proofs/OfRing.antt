@@ -8,7 +8,7 @@ use Rattle.ring_base.specs.Rings.{same_ring}
 use Rattle.ring_base.specs.Numbers.{window_size, greatest, numbers_from}
 use Rattle.ring_base.specs.declared.ring_id.RingId.{RingId}
 use Rattle.ring_wire.specs.declared.message.Message.{Message}
-use Rattle.ring_window.specs.Bits.{bytes_of, held_bits}
+use Rattle.ring_window.specs.Bits.{bytes_from_bits, held_bits}
 use Rattle.ring_window.specs.Held.{found, holds, of_ring, highest, front_of, is_new, missing}
 
 pub of_ring_twice : {A : Type 0} (held : List (Message A)) (ring : RingId) → of_ring ring (of_ring ring held) ≡ of_ring ring held
@@ -57,8 +57,8 @@ missing_of_ring held ring mark upto =
     (all_of_ring held ring)
 
 pub held_bits_of_ring : {A : Type 0} (held : List (Message A)) (ring : RingId) → held_bits (of_ring ring held) ring ≡ held_bits held ring
-held_bits_of_ring held ring = ap (λ (p : ℕ → Bool). bytes_of p (front_of (of_ring ring held) ring + 1) 32) (all_of_ring held ring)
-    ∙ ap (λ n. bytes_of (holds held ring) (n + 1) 32) (front_of_ring held ring)
+held_bits_of_ring held ring = ap (λ (p : ℕ → Bool). bytes_from_bits p (front_of (of_ring ring held) ring + 1) 32) (all_of_ring held ring)
+    ∙ ap (λ n. bytes_from_bits (holds held ring) (n + 1) 32) (front_of_ring held ring)
 
 pub all_found : {A : Type 0} (held : List (Message A)) (ring : RingId) → found (of_ring ring held) ring ≡ found held ring
 all_found held ring = fun_ext (λ n. found_of_ring held ring n)

@@ -12,8 +12,8 @@ use Rattle.ring_base.proofs.Cases.{and-false}
 use Rattle.ring_wire.specs.declared.message.Message.{Message}
 use Rattle.ring_window.specs.Bits.{is_set, IsFirstClear}
 use Rattle.ring_window.specs.Held.{is_numbered, found, holds, of_ring, highest, is_new, IsFrontIn}
-use Rattle.ring_window.specs.Windows.{WindowHistory, opened, takes, kept}
-use Rattle.ring_window.specs.Places.{place_of, in_place, IsWindow}
+use Rattle.ring_window.specs.Windows.{WindowHistory, window_opening, takes, message_above_mark}
+use Rattle.ring_window.specs.Slots.{place_of, message_in_slot, IsWindow}
 use Rattle.ring_window.proofs.HeldFront.{front_is, front_only, highest_covers}
 
 -- ---- what is found is held
@@ -74,18 +74,18 @@ holds_after w front top words places i n l = (let e : w.mark + 1 + (n - w.mark -
     (n - w.mark - 1) ∙ ap (λ k. holds w.held w.ring k) e)
 
 -- No message is kept up to the safe mark, nor after the window.
-pub kept_safe : {A : Type 0} (w : WindowHistory A) (n : ℕ) → n ≤ w.mark → None ≡ kept w n
+pub kept_safe : {A : Type 0} (w : WindowHistory A) (n : ℕ) → n ≤ w.mark → None ≡ message_above_mark w n
 kept_safe w n l = sym (cond-false (nat_lt w.mark n) (found w.held w.ring n) None (le-ltb w.mark n l))
 
 pub kept_beyond : {A : Type 0} (w : WindowHistory A) (front top : ℕ) (words : List ℕ) (places : List (Option (Message A)))
-    → IsWindow w front top words places → (n : ℕ) → w.mark + 256 < n → None ≡ kept w n
+    → IsWindow w front top words places → (n : ℕ) → w.mark + 256 < n → None ≡ message_above_mark w n
 kept_beyond w front top words places i n l = sym (cond-true (nat_lt w.mark n) (found w.held w.ring n) None
     (lt-ltb w.mark n (omega arith)) ∙ found_none w.held w.ring n (i.beyond n l))
 
 -- ---- nothing held
 
 pub opened_is : {A : Type 0} (ring : RingId) (words : List ℕ) (places : List (Option (Message A))) → ((j : ℕ) → is_set words j ≡ false)
-    → length places ≡ 256 → ((j : ℕ) → slice_index_or places j None ≡ None) → IsWindow (opened ring) 0 0 words places
+    → length places ≡ 256 → ((j : ℕ) → slice_index_or places j None ≡ None) → IsWindow (window_opening ring) 0 0 words places
 opened_is ring words places clear count empty = record {
   front_is = refl;
   top_is = refl;
@@ -132,7 +132,7 @@ module _ {A : Type 0} (w : WindowHistory A) (x : Message A) (front top : ℕ) (w
   new_after : (n : ℕ) → w.mark < n → is_set more (n - w.mark - 1) ≡ holds (x ∷ w.held) w.ring n
   new_after n l = (let e : w.mark + 1 + (n - w.mark - 1) ≡ n = omega arith in new_bits (n - w.mark - 1) ∙ ap (λ k. holds (x ∷ w.held) w.ring k) e)
 
-  new_places : (n : ℕ) → w.mark < n → n ≤ w.mark + 256 → in_place (slice_set places (place_of x.number) (Some x)) n ≡ found (x ∷ w.held) w.ring n
+  new_places : (n : ℕ) → w.mark < n → n ≤ w.mark + 256 → message_in_slot (slice_set places (place_of x.number) (Some x)) n ≡ found (x ∷ w.held) w.ring n
   new_places n a b = elim (cases_eq x.number n) [
     | inl e ↦ (let s : place_of n ≡ place_of x.number = ap place_of (sym e) in
         ap (λ k. slice_index_or (slice_set places (place_of x.number) (Some x)) k None) s
@@ -207,8 +207,8 @@ pub forgotten_is : {A : Type 0} (w : WindowHistory A) (upto front top : ℕ) (wo
     → IsWindow w front top words places → w.mark < upto → upto ≤ front
     → ((j : ℕ) → is_set less j ≡ is_set words (upto - w.mark + j))
     → length left ≡ 256
-    → ((n : ℕ) → w.mark < n → n ≤ upto → in_place left n ≡ None)
-    → ((n : ℕ) → upto < n → n ≤ w.mark + 256 → in_place left n ≡ in_place places n)
+    → ((n : ℕ) → w.mark < n → n ≤ upto → message_in_slot left n ≡ None)
+    → ((n : ℕ) → upto < n → n ≤ w.mark + 256 → message_in_slot left n ≡ message_in_slot places n)
     → IsWindow (record w { mark = upto }) front top less left
 forgotten_is w upto front top words less places left i above within bits count cleared others = record {
   front_is = i.front_is;
@@ -223,7 +223,7 @@ forgotten_is w upto front top words less places left i above within bits count c
   placed = λ n a b. elim (cases_lt (w.mark + 256) n) [
     | inl far ↦
         let e : place_of n ≡ place_of (n - 256) = omega arith in
-        let none : in_place left (n - 256) ≡ None = cleared (n - 256) (omega arith) (omega arith) in
+        let none : message_in_slot left (n - 256) ≡ None = cleared (n - 256) (omega arith) (omega arith) in
         ap (λ k. slice_index_or left k None) e ∙ none ∙ sym (found_none w.held w.ring n (i.beyond n far))
     | inr near ↦ others n a near ∙ i.placed n (omega arith) near
   ];
@@ -240,8 +240,8 @@ none_more (x ∷ xs) h (suc j) = none_more xs (λ k. h (suc k)) j
 
 -- The place of one more number is emptied.
 pub cleared_more : {A : Type 0} (xs : List (Option (Message A))) (mark before : ℕ) → length xs ≡ 256 → mark ≤ before → before < mark + 256
-    → ((n : ℕ) → mark < n → n ≤ before → in_place xs n ≡ None) → (n : ℕ) → mark < n → n ≤ before + 1
-    → in_place (slice_set xs (before % 256) None) n ≡ None
+    → ((n : ℕ) → mark < n → n ≤ before → message_in_slot xs n ≡ None) → (n : ℕ) → mark < n → n ≤ before + 1
+    → message_in_slot (slice_set xs (before % 256) None) n ≡ None
 cleared_more xs mark before count a b h n l m = elim (cases_eq n (before + 1)) [
   | inl e ↦ (let s : place_of n ≡ before % 256 = omega arith in ap
       (λ k. slice_index_or (slice_set xs (before % 256) None) k None) s ∙ get_or-set_same xs (before % 256) None None
@@ -250,5 +250,5 @@ cleared_more xs mark before count a b h n l m = elim (cases_eq n (before + 1)) [
 ]
 
 pub others_more : {A : Type 0} (xs : List (Option (Message A))) (mark before : ℕ) → mark ≤ before → before < mark + 256 → (n : ℕ) → before + 1 < n
-    → n ≤ mark + 256 → in_place (slice_set xs (before % 256) None) n ≡ in_place xs n
+    → n ≤ mark + 256 → message_in_slot (slice_set xs (before % 256) None) n ≡ message_in_slot xs n
 others_more xs mark before a b n l m = (let s : place_of n ≢ before % 256 = omega arith in get_or-set_other xs (before % 256) (place_of n) None None s)

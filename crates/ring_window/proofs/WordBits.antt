@@ -9,7 +9,7 @@ use Rattle.std.proofs.lemmas.Nat.{shr-shr, and_mask, pow_pos}
 use Rattle.std.proofs.lemmas.Nat.Bits.{bit_at_or, bit_at-lt, bit_at_above, bit_at_cat_low, bit_at_cat_high, bit_at_ones}
 use Rattle.std.proofs.lemmas.Nat.Bits.{bit_at-zero, same_from_bits_below, bit_at_set_same, bit_at_set_other}
 use Rattle.std.proofs.lemmas.Nat.Bits.{bit_at-trailing_ones}
-use Rattle.ring_base.specs.Numbers.{has_bit, word_of}
+use Rattle.ring_base.specs.Numbers.{has_bit, word_from_test}
 use Rattle.ring_window.specs.Bits.{is_set, IsFirstClear}
 use Rattle.ring_window.proofs.Bits.{word_bit}
 
@@ -101,7 +101,7 @@ has_same a b j h =
     false_true : false ≡ true → ⊥
     false_true h = (cc)
 
-word_of_below : (test : ℕ → Bool) (first count : ℕ) → word_of test first count < 2 ^ count
+word_of_below : (test : ℕ → Bool) (first count : ℕ) → word_from_test test first count < 2 ^ count
 word_of_below test first zero = omega arith
 word_of_below test first (suc count) =
     let h = word_of_below test (suc first) count in
@@ -109,20 +109,20 @@ word_of_below test first (suc count) =
     elim (cases_Bool (test first)) [ inl e ↦ rw (e, p) (omega arith) | inr e ↦ rw (e, p) (omega arith) ]
 
 -- The low 8 bits of a word whose bits are tests.
-pub byte_by_tests : (word first : ℕ) (test : ℕ → Bool) → ((j : ℕ) → j < 64 → has_bit word j ≡ test (first + j)) → bit_and word 255 ≡ word_of test first 8
+pub byte_by_tests : (word first : ℕ) (test : ℕ → Bool) → ((j : ℕ) → j < 64 → has_bit word j ≡ test (first + j)) → bit_and word 255 ≡ word_from_test test first 8
 byte_by_tests word first test bits =
     let m : bit_and word 255 ≡ word % 2 ^ 8 = and_mask word 8 in
-    m ∙ same_from_bits_below 8 (word % 2 ^ 8) (word_of test first 8) (omega arith) (word_of_below test first 8)
-    (λ i l. bit_at_mod word 8 i l ∙ has_same word (word_of test first 8) i (bits i (omega arith) ∙ sym (word_bit test first 8 i l)))
+    m ∙ same_from_bits_below 8 (word % 2 ^ 8) (word_from_test test first 8) (omega arith) (word_of_below test first 8)
+    (λ i l. bit_at_mod word 8 i l ∙ has_same word (word_from_test test first 8) i (bits i (omega arith) ∙ sym (word_bit test first 8 i l)))
 
 -- Two words whose tests agree.
-pub word_of-same : (f g : ℕ → Bool) (a b count : ℕ) → ((i : ℕ) → i < count → f (a + i) ≡ g (b + i)) → word_of f a count ≡ word_of g b count
-word_of-same f g a b zero h = refl
-word_of-same f g a b (suc count) h =
+pub word_from_test-same : (f g : ℕ → Bool) (a b count : ℕ) → ((i : ℕ) → i < count → f (a + i) ≡ g (b + i)) → word_from_test f a count ≡ word_from_test g b count
+word_from_test-same f g a b zero h = refl
+word_from_test-same f g a b (suc count) h =
     let p : a + 0 ≡ a = omega arith in
     let q : b + 0 ≡ b = omega arith in
     let here : f a ≡ g b = sym (ap f p) ∙ h 0 (omega arith) ∙ ap g q in
-    let rest = word_of-same f g (suc a) (suc b) count
+    let rest = word_from_test-same f g (suc a) (suc b) count
     (λ i l. (let s : suc a + i ≡ a + suc i = omega arith in let t : b + suc i ≡ suc b + i = omega arith in ap f s
     ∙ h (suc i) (omega arith) ∙ ap g t)) in
     rw (here, rest) refl

@@ -1,7 +1,7 @@
 pub mod Held
 pub mod Bits
 pub mod Windows
-pub mod Places
+pub mod Slots
 pub mod Messages
 pub mod Payloads
 pub mod PayloadVariants

@@ -4,7 +4,7 @@
 //! Formats: The commit entry
 
 ghost use Rattle.std.specs.Prelude.{◌≡◌, ◌≢◌, ℕ, ◌+◌, ◌*◌, ◌/◌, ◌%◌, ◌<◌, ◌≤◌, true, false, length, slice_index};
-ghost use Rattle.ring_base.specs.Numbers.{has_bit, word_of};
+ghost use Rattle.ring_base.specs.Numbers.{has_bit, word_from_test};
 ghost use Rattle.ring_window.specs.Bits.{is_set, IsFirstClear};
 ghost use Rattle.ring_base.specs.Numbers.{window_size};
 
@@ -56,7 +56,7 @@ impl HeldBits {
     {
         let mut offset = from;
         while offset < BITS {
-            let word = self.word_at(offset);
+            let word = self.word_from_bit(offset);
             if word != u64::MAX {
                 return offset + word.trailing_ones() as usize;
             }
@@ -68,16 +68,16 @@ impl HeldBits {
     /// Returns the bits shifted down by `first`: bit j of the result is bit `first` + j.
     ///
     /// `first` must be at most 256. The bits that are shifted in are clear.
-    pub(crate) fn from_bit(&self, first: usize) -> HeldBits
+    pub(crate) fn shifted_down(&self, first: usize) -> HeldBits
         requires { first ≤ window_size }
         ensures { (j : ℕ) → is_set result.words j ≡ is_set self.now.words (first + j) }
     {
         HeldBits {
             words: [
-                self.word_at(first),
-                self.word_at(first + 64),
-                self.word_at(first + 128),
-                self.word_at(first + 192),
+                self.word_from_bit(first),
+                self.word_from_bit(first + 64),
+                self.word_from_bit(first + 128),
+                self.word_from_bit(first + 192),
             ],
         }
     }
@@ -90,27 +90,27 @@ impl HeldBits {
     pub(crate) fn bytes_from(&self, first: usize) -> [u8; 32]
         requires { first ≤ window_size }
         ensures count { length result ≡ 32 }
-        ensures bytes { (k : ℕ) → k < 32 → slice_index result k ≡ word_of (is_set self.now.words) (first + 8 * k) 8 }
+        ensures bytes { (k : ℕ) → k < 32 → slice_index result k ≡ word_from_test (is_set self.now.words) (first + 8 * k) 8 }
     {
         let mut bytes = [0; 32];
         for k in 0..32 {
-            bytes[k] = self.byte_at(first + 8 * k);
+            bytes[k] = self.byte_from_bit(first + 8 * k);
         }
         bytes
     }
 
     /// Returns the 8 bits from `first` on, the first as the lowest bit. `first` must be at most 512.
-    fn byte_at(&self, first: usize) -> u8
+    fn byte_from_bit(&self, first: usize) -> u8
         requires { first ≤ 512 }
-        ensures { result ≡ word_of (is_set self.now.words) first 8 }
+        ensures { result ≡ word_from_test (is_set self.now.words) first 8 }
     {
-        (self.word_at(first) & 255) as u8
+        (self.word_from_bit(first) & 255) as u8
     }
 
     /// Returns the 64 bits from `first` on, the first as the lowest bit. `first` must be at most 512.
     ///
     /// They come from two words, or from one if `first` is a multiple of 64.
-    fn word_at(&self, first: usize) -> u64
+    fn word_from_bit(&self, first: usize) -> u64
         requires { first ≤ 512 }
         ensures { (j : ℕ) → j < 64 → has_bit result j ≡ is_set self.now.words (first + j) }
     {

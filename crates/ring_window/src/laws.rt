@@ -18,7 +18,7 @@ use std::alloc::Allocator;
 /// This holds for every ring and every list of messages held.
 ///
 /// Rules: Token and window 2
-pub fn front_law<A: Allocator + Copy>()
+pub fn unique_front_law<A: Allocator + Copy>()
     ensures is { (held : List (Message A)) (ring : RingId) → IsFrontIn held ring (front_of held ring) }
     ensures only { (held : List (Message A)) (ring : RingId) (k : ℕ) → IsFrontIn held ring k → k ≡ front_of held ring }
 {}
@@ -28,6 +28,6 @@ pub fn front_law<A: Allocator + Copy>()
 /// This holds for every ring, every list of messages held, and j from 0 to 255.
 ///
 /// Formats: The commit entry
-pub fn bits_law<A: Allocator + Copy>()
+pub fn held_bits_law<A: Allocator + Copy>()
     ensures { (held : List (Message A)) (ring : RingId) (j : ℕ) → j < window_size → bit_of (held_bits held ring) j ≡ holds held ring (front_of held ring + 1 + j) }
 {}

@@ -5,10 +5,10 @@
 #![tactic(auto)]
 
 mod held_bits;
-mod history;
+mod held_history;
 mod laws;
 mod window;
 
-pub use laws::{bits_law, front_law};
-pub use ring_wire::{Content, Message, Payload, Wrapped};
+pub use laws::{held_bits_law, unique_front_law};
+pub use ring_wire::{Message, Payload, Wrapped, WrappedPayload};
 pub use window::Window;

@@ -6,12 +6,12 @@ ghost use Rattle.std.specs.Prelude.{◌≡◌, ◌≢◌, ℕ, suc, ◌+◌, ◌
 ghost use Rattle.ring_base.specs.declared.fault.Fault.TheVariants.{Memory};
 ghost use Rattle.ring_window.specs.Held.{holds, front_of, highest as highest_of, is_new as is_new_number};
 ghost use Rattle.ring_window.specs.Bits.{held_bits as bits_of_held, is_set, IsFirstClear};
-ghost use Rattle.ring_window.specs.Windows.{opened, takes, taken, window_after_forget, kept, first_missing};
-ghost use Rattle.ring_window.specs.Places.{place_of, in_place};
+ghost use Rattle.ring_window.specs.Windows.{window_opening, takes, window_after_take, window_after_forget, message_above_mark, first_missing};
+ghost use Rattle.ring_window.specs.Slots.{place_of, message_in_slot};
 ghost use Rattle.ring_base.specs.Numbers.{window_size};
 
 use crate::held_bits::HeldBits;
-use crate::history::{held_log_opening, one_more};
+use crate::held_history::{empty_held_history, with_held_message};
 use ring_base::{Fault, Ghost, RingId, WINDOW_SIZE};
 use ring_wire::{MAX_REQUESTS, Message, Requests};
 use std::alloc::{AllocError, Allocator, Global};
@@ -33,19 +33,19 @@ pub struct Window<A: Allocator + Copy = Global> {
     front: u64,
     highest: u64,
     bits: HeldBits,
-    places: Vec<Option<Message<A>>, A>,
+    message_slots: Vec<Option<Message<A>>, A>,
     history: Ghost<[Message<A>; 0]>,
 }
 
 impl<A: Allocator + Copy> Model for Window<A> {
     ghost use Rattle.ring_window.specs.Windows.{WindowHistory};
-    ghost use Rattle.ring_window.specs.Places.{IsWindow};
+    ghost use Rattle.ring_window.specs.Slots.{IsWindow};
 
     ghost Value = { WindowHistory A };
 
     ghost view = { λ w. record { ring = w.ring; mark = w.mark; held = w.history.value } };
 
-    ghost invariant = { λ w. IsWindow (record { ring = w.ring; mark = w.mark; held = w.history.value }) w.front w.highest w.bits.words w.places.items };
+    ghost invariant = { λ w. IsWindow (record { ring = w.ring; mark = w.mark; held = w.history.value }) w.front w.highest w.bits.words w.message_slots.items };
 }
 
 impl<A: Allocator + Copy> Window<A> {
@@ -57,7 +57,7 @@ impl<A: Allocator + Copy> Window<A> {
     ///
     /// Rules: Token and window 14
     pub fn new(alloc: A, ring: RingId) -> Result<Window<A>, Fault>
-        ensures ok { IfOk result (λ window. window ≡ opened ring) }
+        ensures ok { IfOk result (λ window. window ≡ window_opening ring) }
         ensures refused { IfErr result (λ fault. fault ≡ Memory) }
     {
         Ok(Window {
@@ -66,8 +66,8 @@ impl<A: Allocator + Copy> Window<A> {
             front: 0,
             highest: 0,
             bits: HeldBits::new(),
-            places: empty_places(alloc)?,
-            history: held_log_opening(),
+            message_slots: empty_slots(alloc)?,
+            history: empty_held_history(),
         })
     }
 
@@ -117,7 +117,7 @@ impl<A: Allocator + Copy> Window<A> {
     /// at 1.
     ///
     /// Rules: Token and window 1 and 14
-    pub fn holds(&self, number: u64) -> bool
+    pub fn has_taken(&self, number: u64) -> bool
         ensures { result ≡ holds self.now.held self.now.ring number }
     {
         if number <= self.mark {
@@ -132,11 +132,11 @@ impl<A: Allocator + Copy> Window<A> {
     pub fn is_new(&self, number: u64) -> bool
         ensures { result ≡ is_new_number self.now.held self.now.mark self.now.ring number }
     {
-        number > self.mark && number - self.mark <= WINDOW_SIZE && !self.holds(number)
+        number > self.mark && number - self.mark <= WINDOW_SIZE && !self.has_taken(number)
     }
 
     /// Returns whether the message belongs to this ring and its number is new.
-    fn takes(&self, message: &Message<A>) -> bool
+    fn would_take(&self, message: &Message<A>) -> bool
         ensures { result ≡ takes self.now message.now }
     {
         message.ring == self.ring && self.is_new(message.number)
@@ -150,17 +150,17 @@ impl<A: Allocator + Copy> Window<A> {
     /// Rules: Token and window 11 and 14
     pub fn take(&mut self, message: Message<A>) -> bool
         ensures answer { result ≡ takes self.old message }
-        ensures window { self.new ≡ taken self.old message }
+        ensures window { self.new ≡ window_after_take self.old message }
     {
-        if !self.takes(&message) {
+        if !self.would_take(&message) {
             return false;
         }
         let number = message.number;
         self.bits.set((number - self.mark - 1) as usize);
-        self.history = one_more(&self.history, &message);
+        self.history = with_held_message(&self.history, &message);
         self.highest = self.highest.max(number);
-        self.front = front_with(&self.bits, self.mark, self.front, number);
-        put(&mut self.places, message);
+        self.front = front_after_take(&self.bits, self.mark, self.front, number);
+        put_into_slot(&mut self.message_slots, message);
         true
     }
 
@@ -170,12 +170,12 @@ impl<A: Allocator + Copy> Window<A> {
     ///
     /// Rules: Token and window 14
     pub fn get(&self, number: u64) -> Option<&Message<A>>
-        ensures { option_copied result ≡ kept self.now number }
+        ensures { option_copied result ≡ message_above_mark self.now number }
     {
         if number <= self.mark || number - self.mark > WINDOW_SIZE {
             return None;
         }
-        self.places[place_of(number)].as_ref()
+        self.message_slots[slot_of(number)].as_ref()
     }
 
     /// Returns the first 32 numbers of the window, ascending, that are at most `upto` and aren't held.
@@ -220,8 +220,8 @@ impl<A: Allocator + Copy> Window<A> {
         if upto <= self.mark {
             return;
         }
-        clear_places(&mut self.places, self.mark, upto);
-        self.bits = self.bits.from_bit((upto - self.mark) as usize);
+        clear_slots(&mut self.message_slots, self.mark, upto);
+        self.bits = self.bits.shifted_down((upto - self.mark) as usize);
         self.mark = upto;
     }
 
@@ -250,13 +250,13 @@ impl<A: Allocator + Copy> Clone for Window<A> {
             highest: self.highest,
             bits: self.bits,
             history: self.history.clone()?,
-            places: copied_places(&self.places)?,
+            message_slots: copied_slots(&self.message_slots)?,
         })
     }
 }
 
 /// Returns the slot of message `number` in the buffer, 0 to 255. `number` must be at least 1.
-fn place_of(number: u64) -> usize
+fn slot_of(number: u64) -> usize
     requires { 1 ≤ number }
     ensures { result ≡ (number - 1) % window_size }
 {
@@ -266,7 +266,7 @@ fn place_of(number: u64) -> usize
 /// Returns the front after the bit of `number` was set in `bits`; `front` is the front before.
 ///
 /// `number` must be one of the 256 after `mark`.
-fn front_with(bits: &HeldBits, mark: u64, front: u64, number: u64) -> u64
+fn front_after_take(bits: &HeldBits, mark: u64, front: u64, number: u64) -> u64
     requires above { mark < number }
     requires inside { number ≤ mark + window_size }
     requires fits { (j : ℕ) → is_set bits.now.words j ≡ true → mark + 1 + j < 2 ^ 64 }
@@ -282,7 +282,7 @@ fn front_with(bits: &HeldBits, mark: u64, front: u64, number: u64) -> u64
 /// Returns 256 empty slots for a window's messages.
 ///
 /// Errors: `Memory` if an allocation fails.
-fn empty_places<A: Allocator + Copy>(alloc: A) -> Result<Vec<Option<Message<A>>, A>, Fault>
+fn empty_slots<A: Allocator + Copy>(alloc: A) -> Result<Vec<Option<Message<A>>, A>, Fault>
     ensures count { IfOk result (λ places. length places.items ≡ window_size) }
     ensures empty { IfOk result (λ places. (j : ℕ) → slice_index_or places.items j None ≡ None) }
     ensures refused { IfErr result (λ fault. fault ≡ Memory) }
@@ -297,7 +297,7 @@ fn empty_places<A: Allocator + Copy>(alloc: A) -> Result<Vec<Option<Message<A>>,
 /// Returns a copy of the slots.
 ///
 /// Errors: `AllocError` if an allocation fails.
-fn copied_places<A: Allocator + Copy>(
+fn copied_slots<A: Allocator + Copy>(
     places: &Vec<Option<Message<A>>, A>,
 ) -> Result<Vec<Option<Message<A>>, A>, AllocError>
     ensures { IfOk result (λ copy. copy.items ≡ places.now.items) }
@@ -306,23 +306,23 @@ fn copied_places<A: Allocator + Copy>(
 }
 
 /// Puts a message into its slot.
-fn put<A: Allocator + Copy>(places: &mut Vec<Option<Message<A>>, A>, message: Message<A>)
+fn put_into_slot<A: Allocator + Copy>(places: &mut Vec<Option<Message<A>>, A>, message: Message<A>)
     requires count { length places.old.items ≡ window_size }
     requires number { 1 ≤ message.number }
     ensures { places.new.items ≡ slice_set places.old.items (place_of message.number) (Some message) }
 {
-    let place = place_of(message.number);
+    let place = slot_of(message.number);
     places[place] = Some(message);
 }
 
 /// Empties the slots of the numbers after `mark` up to `upto`, of which there must be at most 256.
-fn clear_places<A: Allocator + Copy>(places: &mut Vec<Option<Message<A>>, A>, mark: u64, upto: u64)
+fn clear_slots<A: Allocator + Copy>(places: &mut Vec<Option<Message<A>>, A>, mark: u64, upto: u64)
     requires count { length places.old.items ≡ window_size }
     requires order { mark ≤ upto }
     requires inside { upto ≤ mark + window_size }
     ensures count { length places.new.items ≡ window_size }
-    ensures cleared { (n : ℕ) → mark < n → n ≤ upto → in_place places.new.items n ≡ None }
-    ensures others { (n : ℕ) → upto < n → n ≤ mark + window_size → in_place places.new.items n ≡ in_place places.old.items n }
+    ensures cleared { (n : ℕ) → mark < n → n ≤ upto → message_in_slot places.new.items n ≡ None }
+    ensures others { (n : ℕ) → upto < n → n ≤ mark + window_size → message_in_slot places.new.items n ≡ message_in_slot places.old.items n }
 {
     for before in mark..upto {
         places[(before % WINDOW_SIZE) as usize].take();

@@ -10,7 +10,7 @@ use Rattle.std.proofs.lemmas.List.{length-append}
 use Rattle.std.proofs.lemmas.List.Concat.{flat_map-cons}
 use Rattle.byteorder.specs.Endian.{big_bytes}
 use Rattle.ring_payload.specs.Base.{elements, size, smallest, nobody, size_le, RingId}
-use Rattle.ring_payload.specs.Codecs.{IsFormat, such_at, made_at, ◌⊕◌, Format, byte, u16_field, ◌&◌, followed, times, tested_fields_format, ring}
+use Rattle.ring_payload.specs.Codecs.{IsFormat, tested_at, mapped_at, ◌⊕◌, Format, byte_field, u16_field, ◌&◌, dependent_pair_format, repeated_format, tested_fields_format, ring}
 use Rattle.ring_payload.specs.Codecs.{ring_encoding, RingFits}
 use Rattle.ring_wire.specs.declared.entries.CommitEntry.{CommitEntry}
 use Rattle.ring_wire.specs.declared.commit.CommitToken.{CommitToken}
@@ -30,17 +30,17 @@ AreReports r [] (e ∷ es) = ⊥
 AreReports r (m ∷ members) (e ∷ es) = IsReport r m e × AreReports r members es
 
 -- `IsReport` as a test
-abbrev pub is_report : RingId → ℕ → CommitEntry → Bool
-is_report r member e = nat_lt e.old.seq r.seq && (not (e.old.seq == 0) || (e.old.rep == member))
+abbrev pub is_report_of_member : RingId → ℕ → CommitEntry → Bool
+is_report_of_member r member e = nat_lt e.old.seq r.seq && (not (e.old.seq == 0) || (e.old.rep == member))
 
 -- `AreReports` as a test
-abbrev pub are_reports : RingId → List ℕ → List CommitEntry → Bool
-are_reports r members [] = true
-are_reports r [] (e ∷ es) = false
-are_reports r (m ∷ members) (e ∷ es) = is_report r m e && are_reports r members es
+abbrev pub are_reports_of_members : RingId → List ℕ → List CommitEntry → Bool
+are_reports_of_members r members [] = true
+are_reports_of_members r [] (e ∷ es) = false
+are_reports_of_members r (m ∷ members) (e ∷ es) = is_report_of_member r m e && are_reports_of_members r members es
 
-is_report-true : (r : RingId) (m : ℕ) (e : CommitEntry) → is_report r m e ≡ true → IsReport r m e
-is_report-true r m e h =
+is_report_of_member-true : (r : RingId) (m : ℕ) (e : CommitEntry) → is_report_of_member r m e ≡ true → IsReport r m e
+is_report_of_member-true r m e h =
     let both = and_parts _ _ h in
     record {
       older = ltb-true _ _ both.0;
@@ -49,23 +49,23 @@ is_report-true r m e h =
           eqb-true _ _ (rw new at both.1);
     }
 
-true-is_report : (r : RingId) (m : ℕ) (e : CommitEntry) → IsReport r m e → is_report r m e ≡ true
-true-is_report r m e f = elim (cases_Bool (e.old.seq == 0)) [
+true-is_report_of_member : (r : RingId) (m : ℕ) (e : CommitEntry) → IsReport r m e → is_report_of_member r m e ≡ true
+true-is_report_of_member r m e f = elim (cases_Bool (e.old.seq == 0)) [
   | inl new ↦ rw (lt-ltb _ _ f.older, new, eq-eqb _ _ (f.self (eqb-true _ _ new))) refl
   | inr old ↦ rw (lt-ltb _ _ f.older, old) refl
 ]
 
-are_reports-true : (r : RingId) (members : List ℕ) (es : List CommitEntry) → are_reports r members es ≡ true → AreReports r members es
-are_reports-true r members [] h = tt
-are_reports-true r [] (e ∷ es) h = absurd cc
-are_reports-true r (m ∷ members) (e ∷ es) h =
+are_reports_of_members-true : (r : RingId) (members : List ℕ) (es : List CommitEntry) → are_reports_of_members r members es ≡ true → AreReports r members es
+are_reports_of_members-true r members [] h = tt
+are_reports_of_members-true r [] (e ∷ es) h = absurd cc
+are_reports_of_members-true r (m ∷ members) (e ∷ es) h =
     let both = and_parts _ _ h in
-    (is_report-true r m e both.0, are_reports-true r members es both.1)
+    (is_report_of_member-true r m e both.0, are_reports_of_members-true r members es both.1)
 
-true-are_reports : (r : RingId) (members : List ℕ) (es : List CommitEntry) → AreReports r members es → are_reports r members es ≡ true
-true-are_reports r members [] f = refl
-true-are_reports r [] (e ∷ es) f = absurd f
-true-are_reports r (m ∷ members) (e ∷ es) f = rw (true-is_report r m e f.0, true-are_reports r members es f.1) refl
+true-are_reports_of_members : (r : RingId) (members : List ℕ) (es : List CommitEntry) → AreReports r members es → are_reports_of_members r members es ≡ true
+true-are_reports_of_members r members [] f = refl
+true-are_reports_of_members r [] (e ∷ es) f = absurd f
+true-are_reports_of_members r (m ∷ members) (e ∷ es) f = rw (true-is_report_of_member r m e f.0, true-are_reports_of_members r members es f.1) refl
 
 -- ---- the token
 
@@ -96,25 +96,25 @@ pub record CommitFits (t : CommitToken) : Type 0 where
 abbrev pub commit_test : CommitToken → Bool
 commit_test t =
     nat_le 1 t.ring.seq && ((not (t.members == nobody) && (t.ring.rep == smallest t.members))
-    && (nat_le 1 t.hop && (nat_le t.hop (2 * size t.members) && are_reports t.ring (elements t.members) t.entries)))
+    && (nat_le 1 t.hop && (nat_le t.hop (2 * size t.members) && are_reports_of_members t.ring (elements t.members) t.entries)))
 
 -- the fields of a commit token, in order
-abbrev Raw : Type 0
-Raw = RingId × (ℕ × (ℕ × List CommitEntry))
+abbrev CommitFields : Type 0
+CommitFields = RingId × (ℕ × (ℕ × List CommitEntry))
 
 -- the format of these fields
-abbrev commit_fields : Format Raw
-commit_fields = ring & followed u16_field (λ members. followed byte (λ hop. times (entries_at hop (size members)) entry))
+abbrev commit_fields : Format CommitFields
+commit_fields = ring & dependent_pair_format u16_field (λ members. dependent_pair_format byte_field (λ hop. repeated_format (entries_at hop (size members)) entry))
 
 -- the commit token with these fields
-abbrev from_fields : Raw → CommitToken
+abbrev from_fields : CommitFields → CommitToken
 from_fields p = record { ring = p.0; members = p.1.0; hop = p.1.1.0; entries = p.1.1.1 }
 
 -- reads a commit token from the front
 unfoldable pub commit_at : List ℕ → Option (CommitToken × List ℕ)
-commit_at bytes = such_at commit_test (made_at from_fields commit_fields.at) bytes
+commit_at bytes = tested_at commit_test (mapped_at from_fields commit_fields.at) bytes
 
-fits : (p : Raw) → commit_fields.Fits p → commit_test (from_fields p) ≡ true → CommitFits (from_fields p)
+fits : (p : CommitFields) → commit_fields.Fits p → commit_test (from_fields p) ≡ true → CommitFits (from_fields p)
 fits p f passed =
     let a = and_parts _ _ passed in
     let b = and_parts _ _ a.1 in
@@ -131,7 +131,7 @@ fits p f passed =
       last_hop = leb-true _ _ e.0;
       count = f.1.1.1.0;
       each = f.1.1.1.1;
-      reports = are_reports-true p.0 (elements p.1.0) p.1.1.1 e.1;
+      reports = are_reports_of_members-true p.0 (elements p.1.0) p.1.1.1 e.1;
     }
 
 -- a hop of at most twice 16 fits in a byte
@@ -155,7 +155,7 @@ commit_format = tested_fields_format commit_fields from_fields commit_test commi
     eq-eqb _ _ f.representative,
     le-leb _ _ f.first_hop,
     le-leb _ _ f.last_hop,
-    true-are_reports t.ring (elements t.members) t.entries f.reports,
+    true-are_reports_of_members t.ring (elements t.members) t.entries f.reports,
   )
       refl;
 })

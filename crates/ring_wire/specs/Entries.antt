@@ -10,7 +10,7 @@ use Rattle.std.proofs.lemmas.Bool.{cases_lt, cases_Bool, leb-true, le-leb, ltb-f
 use Rattle.std.proofs.lemmas.Bool.{both_ways, and_right}
 use Rattle.byteorder.specs.Endian.{big_bytes}
 use Rattle.ring_payload.specs.Base.{max_number, window_size, has_bit, RingId}
-use Rattle.ring_payload.specs.Codecs.{IsFormat, such_at, made_at, ◌⊕◌, Format, u64_field, text, ◌&◌, tested_fields_format, ring, ring_encoding, RingFits}
+use Rattle.ring_payload.specs.Codecs.{IsFormat, tested_at, mapped_at, ◌⊕◌, Format, u64_field, text, ◌&◌, tested_fields_format, ring, ring_encoding, RingFits}
 use Rattle.ring_wire.specs.declared.entries.CommitEntry.{CommitEntry}
 
 -- ---- the held bits: bit j mod 8 of byte j div 8 stands for the number front + 1 + j
@@ -186,8 +186,8 @@ entry_test e = nat_le e.mark e.front
     && (nat_le e.front max_number && (nat_le e.front (e.mark + window_size)
     && (held_test e.front e.mark e.held window_size && (not (e.old.seq == 0) || nothing_test e))))
 
-has_no_report : (e : CommitEntry) → (not (e.old.seq == 0) || nothing_test e) ≡ true → e.old.seq ≡ 0 → ReportsNothing e
-has_no_report e h z =
+is_opening_report : (e : CommitEntry) → (not (e.old.seq == 0) || nothing_test e) ≡ true → e.old.seq ≡ 0 → ReportsNothing e
+is_opening_report e h z =
     let new : (e.old.seq == 0) ≡ true = eq-eqb _ _ z in
     let passed : nothing_test e ≡ true = rw new at h in
     let a = and_parts _ _ passed in
@@ -203,20 +203,20 @@ nothing_is e n = elim (cases_Bool (e.old.seq == 0)) [
 ]
 
 -- the fields of an entry, in order
-abbrev Raw : Type 0
-Raw = RingId × (ℕ × (ℕ × List ℕ))
+abbrev EntryFields : Type 0
+EntryFields = RingId × (ℕ × (ℕ × List ℕ))
 
 -- the format of these fields
-abbrev entry_fields : Format Raw
+abbrev entry_fields : Format EntryFields
 entry_fields = ring & u64_field & u64_field & text 32
 
 -- the entry with these fields
-abbrev from_fields : Raw → CommitEntry
+abbrev from_fields : EntryFields → CommitEntry
 from_fields p = record { old = p.0; front = p.1.0; mark = p.1.1.0; held = p.1.1.1 }
 
 -- reads an entry from the front
 unfoldable pub entry_at : List ℕ → Option (CommitEntry × List ℕ)
-entry_at bytes = such_at entry_test (made_at from_fields entry_fields.at) bytes
+entry_at bytes = tested_at entry_test (mapped_at from_fields entry_fields.at) bytes
 
 -- an entry is read exactly
 pub entry_format : IsFormat entry_encoding EntryFits entry_at
@@ -235,7 +235,7 @@ entry_format = tested_fields_format entry_fields from_fields entry_test entry_en
         front = leb-true _ _ b.0;
         window = leb-true _ _ c.0;
         held = held_test-true p.1.0 p.1.1.0 p.1.1.1 window_size d.0;
-        nothing = has_no_report (from_fields p) d.1;
+        nothing = is_opening_report (from_fields p) d.1;
       };
   back = λ e f. ((e.old, (e.front, (e.mark, e.held))), (f.old, (omega (arith, f.front), (omega (arith, f.front, f.mark), f.bits))), refl);
   passes = λ e f. rw (le-leb _ _ f.mark, le-leb _ _ f.front, le-leb _ _ f.window, true-held_test e.front e.mark e.held window_size f.held, nothing_is e f.nothing) refl;

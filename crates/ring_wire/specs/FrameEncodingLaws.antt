@@ -5,15 +5,15 @@ use Rattle.std.specs.Prelude.{◌==◌}
 use Rattle.std.proofs.lemmas.Bool.{eqb-true, cases_Bool}
 use Rattle.byteorder.specs.Endian.{big_bytes}
 use Rattle.ring_payload.specs.Codecs.{ring_encoding}
-use Rattle.ring_payload.specs.declared.content.Content.{Content}
-use Rattle.ring_payload.specs.declared.content.Content.TheVariants as contents
+use Rattle.ring_payload.specs.declared.content.WrappedPayload.{WrappedPayload}
+use Rattle.ring_payload.specs.declared.content.WrappedPayload.TheVariants as contents
 use Rattle.ring_payload.specs.declared.content.Payload.{Payload}
 use Rattle.ring_payload.specs.declared.content.Payload.TheVariants as payloads
 use Rattle.ring_payload.specs.declared.content.Wrapped.{Wrapped}
 use Rattle.ring_payload.specs.declared.head.Head.{Head}
 use Rattle.ring_payload.specs.Calls.{call_encoding}
 use Rattle.ring_payload.specs.Contents.{content_encoding, ContentFits, wrapped_encoding, WrappedFits}
-use Rattle.ring_payload.specs.Heads.{head_encoding, HeadFits, is_whole, is_trimmed, positive}
+use Rattle.ring_payload.specs.Heads.{head_encoding, HeadFits, untrimmed_head-encoding, trimmed_head-encoding, not_zero_positive}
 use Rattle.ring_payload.specs.Limits.{call_tag, wrapped_tag, end_tag, head_tag, part_tag, pack_tag, trimmed_tag}
 use Rattle.ring_payload.specs.Limits.{snap_tag, message_kind, token_kind, join_kind, commit_kind, first_version}
 use Rattle.ring_payload.specs.Packs.{pack_encoding}
@@ -38,10 +38,10 @@ tagged tag text rest other e same = e ∙ ap (λ (r : List ℕ). tag ∷ r) same
 -- ---- bytes that the grammar allows for a value are its encoding
 
 head_encoding_only : (h : Head) (text : List ℕ) → IsHeadEncoding h text → HeadFits h × (text ≡ head_encoding h)
-head_encoding_only h text (inl s) = let t = is_whole h s.2.1 in (s.2.0, rw (t.0, t.1) (tagged head_tag text s.0 _ s.1 s.2.2))
-head_encoding_only h text (inr s) = let t = is_trimmed h s.2.1 in (s.2.0, rw (t.0, t.1) (tagged trimmed_tag text s.0 _ s.1 s.2.2))
+head_encoding_only h text (inl s) = let t = untrimmed_head-encoding h s.2.1 in (s.2.0, rw (t.0, t.1) (tagged head_tag text s.0 _ s.1 s.2.2))
+head_encoding_only h text (inr s) = let t = trimmed_head-encoding h s.2.1 in (s.2.0, rw (t.0, t.1) (tagged trimmed_tag text s.0 _ s.1 s.2.2))
 
-content_encoding_only : {A : Type 0} (c : Content A) (text : List ℕ) → IsContentEncoding c text → ContentFits c × (text ≡ content_encoding c)
+content_encoding_only : {A : Type 0} (c : WrappedPayload A) (text : List ℕ) → IsContentEncoding c text → ContentFits c × (text ≡ content_encoding c)
 content_encoding_only (contents.Call c) text s = (s.2.0, tagged call_tag text s.0 (call_encoding c) s.1 s.2.1)
 content_encoding_only (contents.Head h) text s = head_encoding_only h text s
 content_encoding_only (contents.Part p) text s = (s.2.0, tagged part_tag text s.0 (part_encoding p) s.1 s.2.1)
@@ -66,25 +66,25 @@ message_encoding_only m text s =
     s.text ∙ ap (λ (rest : List ℕ). ring_encoding m.ring ++ (big_bytes 8 m.number ++ m.sender ∷ rest)) (payload_encoding_only m.payload s.payload s.is_payload).1
 
 -- the start of a frame of this version and kind, then the length-prefixed body
-abbrev framed : ℕ → ℕ → List ℕ → List ℕ
-framed version kind body = 84 ∷ 82 ∷ version ∷ kind ∷ (big_bytes 4 (length body) ++ body)
+abbrev frame_with_body : ℕ → ℕ → List ℕ → List ℕ
+frame_with_body version kind body = 84 ∷ 82 ∷ version ∷ kind ∷ (big_bytes 4 (length body) ++ body)
 
 -- bytes that the grammar allows for a frame are its encoding, and the frame is within its limits
-pub encoded : {A : Type 0} (f : Frame A) (text : List ℕ) → IsFrameEncoding f text → FrameFits f × (text ≡ encoding_of f)
-encoded (frames.Message m) text s = (s.2.fits, s.1 ∙ ap (framed (payload_version m.payload) message_kind) (message_encoding_only m s.0 s.2))
-encoded (frames.Token t) text s = (s.2.0, s.1 ∙ ap (framed first_version token_kind) s.2.1)
-encoded (frames.Join j) text s = (s.2.0, s.1 ∙ ap (framed first_version join_kind) s.2.1)
-encoded (frames.Commit t) text s = (s.2.0, s.1 ∙ ap (framed first_version commit_kind) s.2.1)
+pub frame_encoding_of_grammar : {A : Type 0} (f : Frame A) (text : List ℕ) → IsFrameEncoding f text → FrameFits f × (text ≡ encoding_of f)
+frame_encoding_of_grammar (frames.Message m) text s = (s.2.fits, s.1 ∙ ap (frame_with_body (payload_version m.payload) message_kind) (message_encoding_only m s.0 s.2))
+frame_encoding_of_grammar (frames.Token t) text s = (s.2.0, s.1 ∙ ap (frame_with_body first_version token_kind) s.2.1)
+frame_encoding_of_grammar (frames.Join j) text s = (s.2.0, s.1 ∙ ap (frame_with_body first_version join_kind) s.2.1)
+frame_encoding_of_grammar (frames.Commit t) text s = (s.2.0, s.1 ∙ ap (frame_with_body first_version commit_kind) s.2.1)
 
 -- ---- the grammar allows the encoding of a value within the limits
 
 head_encoding_is : (h : Head) → HeadFits h → IsHeadEncoding h (head_encoding h)
 head_encoding_is h f = elim (cases_Bool (h.trimmed == 0)) [
-  | inl e ↦ let none = eqb-true _ _ e in let t = is_whole h none in rw (t.0, t.1) (inl (_, refl, (f, none, refl)))
-  | inr e ↦ let some = positive h.trimmed e in let t = is_trimmed h some in rw (t.0, t.1) (inr (_, refl, (f, some, refl)))
+  | inl e ↦ let none = eqb-true _ _ e in let t = untrimmed_head-encoding h none in rw (t.0, t.1) (inl (_, refl, (f, none, refl)))
+  | inr e ↦ let some = not_zero_positive h.trimmed e in let t = trimmed_head-encoding h some in rw (t.0, t.1) (inr (_, refl, (f, some, refl)))
 ]
 
-content_encoding_is : {A : Type 0} (c : Content A) → ContentFits c → IsContentEncoding c (content_encoding c)
+content_encoding_is : {A : Type 0} (c : WrappedPayload A) → ContentFits c → IsContentEncoding c (content_encoding c)
 content_encoding_is (contents.Call c) f = (call_encoding c, refl, (f, refl))
 content_encoding_is (contents.Head h) f = head_encoding_is h f
 content_encoding_is (contents.Part p) f = (part_encoding p, refl, (f, refl))

@@ -4,11 +4,11 @@ use Rattle.std.proofs.Common.{◌≡◌, ℕ, ◌^◌, ◌<◌, ◌≤◌, Bool,
 use Rattle.std.specs.Prelude.{◌&&◌, ◌==◌, if◌then◌else◌}
 use Rattle.std.proofs.lemmas.Bool.{eqb-true, and_parts, cases_Bool}
 use Rattle.byteorder.specs.Endian.{big_bytes}
-use Rattle.ring_payload.specs.Codecs.{IsFormat, made_at, such_at, byte_at, ◌>>=◌, ◌⊕◌, Format, byte, ◌&◌, such, sized, fields_format}
-use Rattle.ring_payload.specs.Codecs.{Case, case, tagged_cases_at, cases_at, IsMade, cases_format}
+use Rattle.ring_payload.specs.Codecs.{IsFormat, mapped_at, tested_at, byte_at, ◌>>=◌, ◌⊕◌, Format, byte_field, ◌&◌, tested_format, length_prefixed_format, fields_format}
+use Rattle.ring_payload.specs.Codecs.{Case, tagged_case, tagged_cases_at, cases_at, IsMade, cases_format}
 use Rattle.ring_payload.specs.declared.head.Head.{Head}
-use Rattle.ring_payload.specs.declared.content.Content.{Content}
-use Rattle.ring_payload.specs.declared.content.Content.TheVariants as contents
+use Rattle.ring_payload.specs.declared.content.WrappedPayload.{WrappedPayload}
+use Rattle.ring_payload.specs.declared.content.WrappedPayload.TheVariants as contents
 use Rattle.ring_payload.specs.declared.content.Payload.{Payload}
 use Rattle.ring_payload.specs.declared.content.Payload.TheVariants as payloads
 use Rattle.ring_payload.specs.Limits.{message_kind, token_kind, join_kind, commit_kind, first_version}
@@ -77,29 +77,29 @@ commit_short x f = omega (arith, length-commit x f)
 
 -- the format of a length-prefixed message
 abbrev sized_message : {A : Type 0} → Format (Message A)
-sized_message = sized message message_short
+sized_message = length_prefixed_format message message_short
 
 -- the format of a length-prefixed token
 abbrev sized_token : Format Token
-sized_token = sized token token_short
+sized_token = length_prefixed_format token token_short
 
 -- the format of a length-prefixed join
 abbrev sized_join : Format Join
-sized_join = sized join join_short
+sized_join = length_prefixed_format join join_short
 
 -- the format of a length-prefixed commit token
 abbrev sized_commit : Format CommitToken
-sized_commit = sized commit commit_short
+sized_commit = length_prefixed_format commit commit_short
 
 -- ---- the kind, and the length-prefixed body
 
 -- the cases of frames, by their kinds
 abbrev kind_cases : {A : Type 0} → List (Case (Frame A))
 kind_cases =
-    case message_kind sized_message frames.Message ∷
-    case token_kind sized_token frames.Token ∷
-    case join_kind sized_join frames.Join ∷
-    case commit_kind sized_commit frames.Commit ∷ []
+    tagged_case message_kind sized_message frames.Message ∷
+    tagged_case token_kind sized_token frames.Token ∷
+    tagged_case join_kind sized_join frames.Join ∷
+    tagged_case commit_kind sized_commit frames.Commit ∷ []
 
 -- reads a kind and its body from the front
 unfoldable pub kind_at : {A : Type 0} → List ℕ → Option (Frame A × List ℕ)
@@ -139,7 +139,7 @@ version_of (frames.Commit x) = first_version
 head_version-byte : (h : Head) → head_version h < 256
 head_version-byte h = elim (cases_Bool (h.trimmed == 0)) [ inl e ↦ rw e (omega arith) | inr e ↦ rw e (omega arith) ]
 
-content_version-byte : {A : Type 0} (c : Content A) → content_version c < 256
+content_version-byte : {A : Type 0} (c : WrappedPayload A) → content_version c < 256
 content_version-byte (contents.Call x) = omega arith
 content_version-byte (contents.Head x) = head_version-byte x
 content_version-byte (contents.Part x) = omega arith
@@ -175,7 +175,7 @@ is_of_version p = p.0 == version_of p.1
 
 -- the fields of a frame: the two fixed bytes, the version, and the kind with the length-prefixed body
 abbrev frame_fields : {A : Type 0} → Format ((ℕ × ℕ) × (ℕ × Frame A))
-frame_fields = such is_start (byte & byte) & such is_of_version (byte & kind)
+frame_fields = tested_format is_start (byte_field & byte_field) & tested_format is_of_version (byte_field & kind)
 
 -- the frame with these fields
 abbrev from_fields : {A : Type 0} → (ℕ × ℕ) × (ℕ × Frame A) → Frame A
@@ -183,11 +183,11 @@ from_fields p = p.1.1
 
 -- reads the body of a frame of this version and kind
 unfoldable pub body_at : {A : Type 0} → ℕ → ℕ → List ℕ → Option (Frame A × List ℕ)
-body_at version kind bytes = such_at (λ f. version == version_of f) (cases_at kind_cases kind) bytes
+body_at version kind bytes = tested_at (λ f. version == version_of f) (cases_at kind_cases kind) bytes
 
 -- reads a frame from the front
 unfoldable pub frame_at : {A : Type 0} → List ℕ → Option (Frame A × List ℕ)
-frame_at {A} bytes = made_at from_fields (frame_fields {A = A}).at bytes
+frame_at {A} bytes = mapped_at from_fields (frame_fields {A = A}).at bytes
 
 -- ---- a frame is read as its fixed bytes, its version, its kind and its body
 
@@ -222,11 +222,11 @@ read_behind start version None = refl
 read_behind start version (Some (f, rest)) = passed (version == version_of f) start ((version, f), rest)
 
 -- after the two fixed bytes, a version and a kind, the frame is the body read there
-pub frame_behind : {A : Type 0} (b0 b1 b2 b3 b4 : List ℕ) (first second version kind : ℕ) → first ≡ 84 → second ≡ 82
+pub frame_after_kind : {A : Type 0} (b0 b1 b2 b3 b4 : List ℕ) (first second version kind : ℕ) → first ≡ 84 → second ≡ 82
     → byte_at b0 ≡ Some (first, b1) → byte_at b1 ≡ Some (second, b2)
     → byte_at b2 ≡ Some (version, b3) → byte_at b3 ≡ Some (kind, b4) → frame_at {A = A} b0 ≡ body_at version kind b4
 unfolding frame_at body_at kind_at
-frame_behind {A} b0 b1 b2 b3 b4 first second version kind is_first is_second e0 e1 e2 e3 =
+frame_after_kind {A} b0 b1 b2 b3 b4 first second version kind is_first is_second e0 e1 e2 e3 =
     rw (e0, is_first, e1, is_second, e2, e3) (read_behind {A = A} (84, 82) version (cases_at kind_cases kind b4))
 
 encoded : {A : Type 0} (p : (ℕ × ℕ) × (ℕ × Frame A)) → (frame_fields {A = A}).Fits p → encoding_of (from_fields p) ≡ (frame_fields {A = A}).encoding p

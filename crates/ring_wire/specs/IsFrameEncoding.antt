@@ -10,8 +10,8 @@ use Rattle.ring_payload.specs.declared.calls.Pack.{Pack}
 use Rattle.ring_payload.specs.declared.calls.Part.{Part}
 use Rattle.ring_payload.specs.declared.head.Head.{Head}
 use Rattle.ring_payload.specs.declared.snap.Snap.{Snap}
-use Rattle.ring_payload.specs.declared.content.Content.{Content}
-use Rattle.ring_payload.specs.declared.content.Content.TheVariants as contents
+use Rattle.ring_payload.specs.declared.content.WrappedPayload.{WrappedPayload}
+use Rattle.ring_payload.specs.declared.content.WrappedPayload.TheVariants as contents
 use Rattle.ring_payload.specs.declared.content.Payload.{Payload}
 use Rattle.ring_payload.specs.declared.content.Payload.TheVariants as payloads
 use Rattle.ring_payload.specs.declared.content.Wrapped.{Wrapped}
@@ -72,7 +72,7 @@ abbrev pub IsSnapEncoding : {A : Type 0} → Snap A → List ℕ → Type 0
 IsSnapEncoding s text = SnapFits s × (text ≡ big_bytes 8 s.at ⊕ big_bytes 4 s.total ⊕ big_bytes 4 s.offset ⊕ big_bytes 2 (length s.bytes) ⊕ s.bytes)
 
 -- the content of a Wrapped: a tag and its body
-abbrev pub IsContentEncoding : {A : Type 0} → Content A → List ℕ → Type 0
+abbrev pub IsContentEncoding : {A : Type 0} → WrappedPayload A → List ℕ → Type 0
 IsContentEncoding (contents.Call c) text = Tagged call_tag (IsCallEncoding c) text
 IsContentEncoding (contents.Head h) text = IsHeadEncoding h text
 IsContentEncoding (contents.Part p) text = Tagged part_tag (IsPartEncoding p) text

@@ -6,7 +6,7 @@ use Rattle.std.specs.Prelude.{nat_le, ◌&&◌, not}
 use Rattle.std.proofs.lemmas.Bool.{leb-true, le-leb, and_parts, both_ways, not-true, not_from_false, false_from_ne_true}
 use Rattle.byteorder.specs.Endian.{big_bytes}
 use Rattle.ring_payload.specs.Base.{max_number, IsProc, IsMember, IsSubset, has, within, has_member, member_had, within_members}
-use Rattle.ring_payload.specs.Codecs.{IsFormat, such_at, made_at, ◌⊕◌, Format, u16_field, u64_field, ◌&◌, tested_fields_format, proc, proc_encoding}
+use Rattle.ring_payload.specs.Codecs.{IsFormat, tested_at, mapped_at, ◌⊕◌, Format, u16_field, u64_field, ◌&◌, tested_fields_format, proc, proc_encoding}
 use Rattle.ring_wire.specs.declared.join.Join.{Join}
 
 -- the encoding of a join: its sender in one byte, its number in 8, `proc_set` in 2, `fail_set` in 2
@@ -28,20 +28,20 @@ abbrev pub join_test : Join → Bool
 join_test j = nat_le j.number max_number && (has j.proc_set j.sender && (within j.fail_set j.proc_set && not (has j.fail_set j.sender)))
 
 -- the fields of a join, in order
-abbrev Raw : Type 0
-Raw = ℕ × (ℕ × (ℕ × ℕ))
+abbrev JoinFields : Type 0
+JoinFields = ℕ × (ℕ × (ℕ × ℕ))
 
 -- the format of these fields
-abbrev join_fields : Format Raw
+abbrev join_fields : Format JoinFields
 join_fields = proc & u64_field & u16_field & u16_field
 
 -- the join with these fields
-abbrev from_fields : Raw → Join
+abbrev from_fields : JoinFields → Join
 from_fields p = record { sender = p.0; number = p.1.0; proc_set = p.1.1.0; fail_set = p.1.1.1 }
 
 -- reads a join from the front
 unfoldable pub join_at : List ℕ → Option (Join × List ℕ)
-join_at bytes = such_at join_test (made_at from_fields join_fields.at) bytes
+join_at bytes = tested_at join_test (mapped_at from_fields join_fields.at) bytes
 
 -- a join is read exactly
 pub join_format : IsFormat join_encoding JoinFits join_at

@@ -9,8 +9,8 @@ use Rattle.byteorder.specs.Endian.{big_bytes}
 use Rattle.ring_payload.specs.Base.{RingId}
 use Rattle.ring_payload.specs.Codecs.{some_proc_encoding, some_ring_encoding}
 use Rattle.ring_payload.specs.declared.head.Head.{Head}
-use Rattle.ring_payload.specs.declared.content.Content.{Content}
-use Rattle.ring_payload.specs.declared.content.Content.TheVariants as contents
+use Rattle.ring_payload.specs.declared.content.WrappedPayload.{WrappedPayload}
+use Rattle.ring_payload.specs.declared.content.WrappedPayload.TheVariants as contents
 use Rattle.ring_payload.specs.declared.content.Payload.{Payload}
 use Rattle.ring_payload.specs.declared.content.Payload.TheVariants as payloads
 use Rattle.ring_payload.specs.Heads.{head_body, trimmed_length_encoding}
@@ -38,7 +38,7 @@ length-head h =
     let e = length-append (some_ring_encoding h.last) (big_bytes 8 h.length ++ (big_bytes 8 h.committed ++ trimmed_length_encoding h.trimmed)) in
     omega (arith, e, length-some_ring h.last, length-trimmed h.trimmed)
 
-length-content : {A : Type 0} (c : Content A) → ContentFits c → length (content_encoding c) ≤ 7276
+length-content : {A : Type 0} (c : WrappedPayload A) → ContentFits c → length (content_encoding c) ≤ 7276
 length-content (contents.Call x) f = omega (arith, f.op)
 length-content (contents.Head x) f = omega (arith, length-head x)
 length-content (contents.Part x) f = omega (arith, length-part x f)

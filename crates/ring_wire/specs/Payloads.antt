@@ -2,8 +2,8 @@
 pub use Rattle.ring_payload.specs.Limits.{max_requests, max_snapshot, max_piece_bytes}
 pub use Rattle.ring_payload.specs.declared.content.Payload.{Payload}
 pub use Rattle.ring_payload.specs.Packing.{is_queued, packed_payloads, unpacked_rest}
-pub use Rattle.ring_payload.specs.Kinds.{is_user, is_end, payload_of, content_of, calls_of}
-pub use Rattle.ring_payload.specs.declared.content.Content.{Content}
+pub use Rattle.ring_payload.specs.PayloadKinds.{is_user, is_end, payload_of, content_of, calls_of}
+pub use Rattle.ring_payload.specs.declared.content.WrappedPayload.{WrappedPayload}
 pub use Rattle.ring_payload.specs.declared.call.Call.{Call}
 pub use Rattle.ring_payload.specs.Calls.{CallFits}
 pub use Rattle.ring_payload.specs.SameCalls.{is_same, is_same-true, is_same-self}

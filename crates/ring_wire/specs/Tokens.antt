@@ -9,11 +9,11 @@ use Rattle.std.proofs.lemmas.List.Concat.{flat_map-cons}
 use Rattle.std.proofs.lemmas.Bool.{leb-true, le-leb, eqb-true, cases_Bool, and_parts}
 use Rattle.byteorder.specs.Endian.{big_bytes}
 use Rattle.ring_payload.specs.Base.{max_number, RingId}
-use Rattle.ring_payload.specs.Codecs.{IsFormat, IsWord, such_at, made_at, ◌⊕◌, Format, byte, u64_field, ◌&◌, followed, times, such, fields_format}
+use Rattle.ring_payload.specs.Codecs.{IsFormat, IsWord, tested_at, mapped_at, ◌⊕◌, Format, byte_field, u64_field, ◌&◌, dependent_pair_format, repeated_format, tested_format, fields_format}
 use Rattle.ring_payload.specs.Codecs.{tested_fields_format, some_proc, some_proc_encoding, SomeProcFits, ring, ring_encoding, RingFits}
 use Rattle.ring_payload.specs.Limits.{max_requests}
 use Rattle.ring_wire.specs.declared.token.Token.{Token}
-use Rattle.ring_wire.specs.Ascending.{ascends, ascends-each, ascends-increasing, increasing-ascends, IsStrictlyIncreasing-from_zero, each_below, each_le}
+use Rattle.ring_wire.specs.Ascending.{is_ascending_within, is_ascending_within-each, is_ascending_within-increasing, increasing-is_ascending_within, IsStrictlyIncreasing-from_zero, each_below, each_le}
 
 -- ---- requests: their count in one byte, and the numbers in 8 each
 
@@ -28,11 +28,11 @@ pub record RequestsFit (ns : List ℕ) : Type 0 where
 
 -- the count and the numbers
 abbrev requests_fields : Format (ℕ × List ℕ)
-requests_fields = followed (such (λ n. nat_le n max_requests) byte) (λ n. times n u64_field)
+requests_fields = dependent_pair_format (tested_format (λ n. nat_le n max_requests) byte_field) (λ n. repeated_format n u64_field)
 
 -- reads requests from the front
 unfoldable pub requests_at : List ℕ → Option (List ℕ × List ℕ)
-requests_at bytes = made_at (λ p. p.1) requests_fields.at bytes
+requests_at bytes = mapped_at (λ p. p.1) requests_fields.at bytes
 
 -- requests are read exactly
 pub requests_format : IsFormat requests_encoding RequestsFit requests_at
@@ -84,7 +84,7 @@ aru_id_test t = if t.aru == t.seq then is_none t.aru_id else is_some t.aru_id
 abbrev pub token_test : Token → Bool
 token_test t = nat_le 1 t.ring.seq &&
     (nat_le 1 t.number && (nat_le t.number max_number
-    && (nat_le t.aru t.seq && (nat_le t.seq max_number && (aru_id_test t && ascends 0 t.seq t.requests)))))
+    && (nat_le t.aru t.seq && (nat_le t.seq max_number && (aru_id_test t && is_ascending_within 0 t.seq t.requests)))))
 
 none_tested : (o : Option ℕ) (a b : ℕ) → (if a == b then is_none o else is_some o) ≡ true → (o ≡ None) ↔ (a ≡ b)
 none_tested None a b h = (λ n. elim (cases_Bool (a == b)) [ inl e ↦ eqb-true a b e | inr e ↦ absurd (let f : false ≡ true = rw e at h in cc) ], λ e. refl)
@@ -108,7 +108,7 @@ from_fields p = record { ring = p.0; number = p.1.0; seq = p.1.1.0; aru = p.1.1.
 
 -- reads a token from the front
 unfoldable pub token_at : List ℕ → Option (Token × List ℕ)
-token_at bytes = such_at token_test (made_at from_fields token_fields.at) bytes
+token_at bytes = tested_at token_test (mapped_at from_fields token_fields.at) bytes
 
 fits : (p : Raw) → token_fields.Fits p → token_test (from_fields p) ≡ true → TokenFits (from_fields p)
 fits p f passed =
@@ -128,8 +128,8 @@ fits p f passed =
       aru_id = f.1.1.1.1.0;
       aru_id_none = none_tested p.1.1.1.1.0 p.1.1.1.0 p.1.1.0 g.0;
       few = f.1.1.1.1.1.few;
-      ascending = ascends-increasing 0 p.1.1.0 p.1.1.1.1.1 g.1;
-      each = ascends-each 0 p.1.1.0 p.1.1.1.1.1 g.1;
+      ascending = is_ascending_within-increasing 0 p.1.1.0 p.1.1.1.1.1 g.1;
+      each = is_ascending_within-each 0 p.1.1.0 p.1.1.1.1.1 g.1;
     }
 
 -- the requests of a token are within the limits of requests
@@ -157,7 +157,7 @@ token_format = tested_fields_format token_fields from_fields token_test token_en
     refl,
   );
   passes = λ t f.
-      let up = increasing-ascends 0 t.seq t.requests (IsStrictlyIncreasing-from_zero t.seq t.requests f.ascending f.each) (each_le 0 t.seq t.requests f.each) in
+      let up = increasing-is_ascending_within 0 t.seq t.requests (IsStrictlyIncreasing-from_zero t.seq t.requests f.ascending f.each) (each_le 0 t.seq t.requests f.each) in
       rw (
         le-leb _ _ f.ring_counted,
         le-leb _ _ f.number_counted,

@@ -6,11 +6,11 @@
 ghost use Rattle.std.specs.Prelude.{◌≡◌, ℕ, ◌+◌, ◌^◌, ◌<◌, ◌≤◌, Bool, ◌&&◌, ◌==◌, not, List, [], ◌∷◌, ◌++◌, length};
 ghost use Rattle.ring_payload.specs.Codecs.{Appends, IsReadResult, IsReadResultBy};
 ghost use Rattle.ring_payload.specs.Base.{elements, smallest, nobody};
-ghost use Rattle.ring_wire.specs.Commits.{is_report as is_report_of, are_reports as are_reports_of};
+ghost use Rattle.ring_wire.specs.Commits.{is_report_of_member as is_report_of, are_reports_of_members as are_reports_of};
 
 use crate::entries::{CommitEntry, Entries};
 use bytes::BytesMut;
-use ring_payload::{Decode, Encode, Fault, Proc, ProcSet, Reader, RingId, write_many};
+use ring_payload::{Decode, Encode, Fault, Proc, ProcSet, Reader, RingId, encode_list};
 use std::alloc::Allocator;
 
 /// `CommitToken`: the token that goes round a proposed ring twice to form it.
@@ -33,20 +33,20 @@ pub struct CommitToken {
 
 /// Returns whether the entry's old ring has a lower number than `ring` and, if that number is 0, is the opening ring of
 /// `member`.
-fn is_report(entry: &CommitEntry, ring: &RingId, member: Proc) -> bool
+fn is_report_of_member(entry: &CommitEntry, ring: &RingId, member: Proc) -> bool
     ensures { result ≡ is_report_of ring.now member entry.now }
 {
     entry.old.seq < ring.seq && (entry.old.seq != 0 || entry.old.rep == member)
 }
 
 /// Returns whether the entries may be those of the first members, in ascending order, one for each.
-fn are_reports(entries: &[CommitEntry], ring: &RingId, members: ProcSet) -> bool
+fn are_reports_of_members(entries: &[CommitEntry], ring: &RingId, members: ProcSet) -> bool
     ensures { result ≡ are_reports_of ring.now (elements members) entries.now }
 {
     let mut left = members.iter();
     for entry in entries {
         let is_right = match left.next() {
-            Some(member) => is_report(entry, ring, member),
+            Some(member) => is_report_of_member(entry, ring, member),
             None => false,
         };
         if !is_right {
@@ -71,14 +71,14 @@ impl CommitToken {
     }
 
     /// Returns whether the fields are within the limits of their format.
-    fn is_valid(&self) -> bool
+    fn is_valid_commit_token(&self) -> bool
         ensures { result ≡ commit_test self.now }
     {
         self.ring.seq >= 1
             && self.is_representative_valid()
             && self.hop >= 1
             && u32::from(self.hop) <= 2 * self.members.len()
-            && are_reports(self.entries.as_slice(), &self.ring, self.members)
+            && are_reports_of_members(self.entries.as_slice(), &self.ring, self.members)
     }
 }
 
@@ -87,15 +87,15 @@ impl Encode for CommitToken {
 
     ghost encoding = { commit_encoding };
 
-    ghost most = { 924 };
+    ghost max_encoded_len = { 924 };
 
-    ghost fits = { CommitFits };
+    ghost is_within_limits = { CommitFits };
 
-    ghost at = { commit_at };
+    ghost decoding_at_front = { commit_at };
 
-    ghost format = { commit_format };
+    ghost decoding_is_exact = { commit_format };
 
-    fn size(&self) -> usize {
+    fn encoded_len(&self) -> usize {
         12 + 57 * self.entries.as_slice().len()
     }
 
@@ -103,17 +103,18 @@ impl Encode for CommitToken {
         self.ring.write(out);
         self.members.write(out);
         self.hop.write(out);
-        write_many(self.entries.as_slice(), out);
+        encode_list(self.entries.as_slice(), out);
     }
 }
 
 impl CommitToken {
     ghost use Rattle.ring_wire.specs.Commits.{commit_at};
 
-    /// Returns a commit token without entries, for [`read_into_self`](CommitToken::read_into_self) to overwrite.
+    /// Returns a commit token without entries, for [`decode_commit_token`](CommitToken::decode_commit_token) to
+    /// overwrite.
     ///
     /// It isn't within the limits of its format.
-    pub(crate) fn blank() -> CommitToken
+    pub(crate) fn blank_commit_token() -> CommitToken
         ensures { result.entries ≡ [] }
     {
         CommitToken {
@@ -136,7 +137,7 @@ impl CommitToken {
     ///
     /// Formats: Frames
     #[tactic(auto, unfolding(crate::specs::Commits::commit_at))]
-    pub(crate) fn read_into_self<A: Allocator + Copy>(
+    pub(crate) fn decode_commit_token<A: Allocator + Copy>(
         &mut self,
         alloc: A,
         from: &mut Reader<'_>,
@@ -148,8 +149,8 @@ impl CommitToken {
         self.members = Decode::read(alloc, from)?;
         self.hop = Decode::read(alloc, from)?;
         let count = (self.hop as usize).min(self.members.len() as usize);
-        self.entries.read_into_self(alloc, count, from)?;
-        if !self.is_valid() {
+        self.entries.decode_entries(alloc, count, from)?;
+        if !self.is_valid_commit_token() {
             return Err(Fault::BadFrame);
         }
         Ok(())
@@ -158,8 +159,8 @@ impl CommitToken {
 
 impl<A: Allocator + Copy> Decode<A> for CommitToken {
     fn read(alloc: A, from: &mut Reader<'_>) -> Result<CommitToken, Fault> {
-        let mut token = CommitToken::blank();
-        token.read_into_self(alloc, from)?;
+        let mut token = CommitToken::blank_commit_token();
+        token.decode_commit_token(alloc, from)?;
         Ok(token)
     }
 }

@@ -20,11 +20,11 @@ use std::marker::Model;
 ///
 /// Rules: The commit token 1
 #[derive(Drop)]
-pub struct CommitBox<A: Allocator + Copy = Global> {
+pub struct BoxedCommitToken<A: Allocator + Copy = Global> {
     token: Box<CommitToken, A>,
 }
 
-impl<A: Allocator + Copy> Model for CommitBox<A> {
+impl<A: Allocator + Copy> Model for BoxedCommitToken<A> {
     ghost use Rattle.ring_wire.specs.declared.commit.CommitToken.{CommitToken as OneToken};
 
     ghost Value = { OneToken };
@@ -32,17 +32,17 @@ impl<A: Allocator + Copy> Model for CommitBox<A> {
     ghost view = { λ b. b.token.value };
 }
 
-impl<A: Allocator + Copy> CommitBox<A> {
+impl<A: Allocator + Copy> BoxedCommitToken<A> {
     /// Moves a commit token to the heap and returns the box that owns it.
     ///
     /// Errors: `Memory` if an allocation fails; the token is then dropped.
     ///
     /// Rules: The commit token 1
-    pub fn new(alloc: A, token: CommitToken) -> Result<CommitBox<A>, Fault>
+    pub fn new(alloc: A, token: CommitToken) -> Result<BoxedCommitToken<A>, Fault>
         ensures ok { IfOk result (λ boxed. boxed ≡ token) }
         ensures refused { IfErr result (λ fault. fault ≡ Memory) }
     {
-        Ok(CommitBox {
+        Ok(BoxedCommitToken {
             token: Box::new(alloc, token)?,
         })
     }
@@ -73,7 +73,7 @@ impl<A: Allocator + Copy> CommitBox<A> {
     /// The token must have fewer than 16 entries. Does not allocate.
     ///
     /// Rules: The commit token 5
-    pub fn report(&mut self, entry: CommitEntry)
+    pub fn append_entry(&mut self, entry: CommitEntry)
         requires { length self.old.entries < 16 }
         ensures { self.new ≡ record self.old { entries = self.old.entries ++ entry ∷ [] } }
     {
@@ -81,31 +81,31 @@ impl<A: Allocator + Copy> CommitBox<A> {
     }
 }
 
-impl<A: Allocator + Copy> Clone for CommitBox<A> {
+impl<A: Allocator + Copy> Clone for BoxedCommitToken<A> {
     ghost is_clone = { λ boxed copy. copy ≡ boxed };
 
-    fn clone(&self) -> Result<CommitBox<A>, AllocError> {
-        Ok(CommitBox {
+    fn clone(&self) -> Result<BoxedCommitToken<A>, AllocError> {
+        Ok(BoxedCommitToken {
             token: self.token.clone()?,
         })
     }
 }
 
-impl<A: Allocator + Copy> Encode for CommitBox<A> {
+impl<A: Allocator + Copy> Encode for BoxedCommitToken<A> {
     ghost use Rattle.ring_wire.specs.Commits.{commit_encoding, CommitFits, commit_at, commit_format};
 
     ghost encoding = { commit_encoding };
 
-    ghost most = { 924 };
+    ghost max_encoded_len = { 924 };
 
-    ghost fits = { CommitFits };
+    ghost is_within_limits = { CommitFits };
 
-    ghost at = { commit_at };
+    ghost decoding_at_front = { commit_at };
 
-    ghost format = { commit_format };
+    ghost decoding_is_exact = { commit_format };
 
-    fn size(&self) -> usize {
-        self.token().size()
+    fn encoded_len(&self) -> usize {
+        self.token().encoded_len()
     }
 
     fn write<B: Allocator + Copy>(&self, out: &mut BytesMut<B>) {
@@ -113,10 +113,10 @@ impl<A: Allocator + Copy> Encode for CommitBox<A> {
     }
 }
 
-impl<A: Allocator + Copy> Decode<A> for CommitBox<A> {
-    fn read(alloc: A, from: &mut Reader<'_>) -> Result<CommitBox<A>, Fault> {
-        let mut boxed = CommitBox::new(alloc, CommitToken::blank())?;
-        boxed.token.read_into_self(alloc, from)?;
+impl<A: Allocator + Copy> Decode<A> for BoxedCommitToken<A> {
+    fn read(alloc: A, from: &mut Reader<'_>) -> Result<BoxedCommitToken<A>, Fault> {
+        let mut boxed = BoxedCommitToken::new(alloc, CommitToken::blank_commit_token())?;
+        boxed.token.decode_commit_token(alloc, from)?;
         Ok(boxed)
     }
 }

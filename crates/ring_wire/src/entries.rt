@@ -5,14 +5,14 @@
 
 ghost use Rattle.std.specs.Prelude.{◌≡◌, ℕ, ◌+◌, ◌^◌, ◌<◌, ◌≤◌, List, [], ◌∷◌, ◌++◌, length, ◌==◌, ◌*◌, true};
 ghost use Rattle.std.specs.List.{list_all};
-ghost use Rattle.ring_payload.specs.Codecs.{Appends, IsReadResult, IsReadResultBy, times_at};
+ghost use Rattle.ring_payload.specs.Codecs.{Appends, IsReadResult, IsReadResultBy, repeated_at};
 ghost use Rattle.ring_payload.specs.Base.{window_size};
 
-use crate::valid::if_valid;
+use crate::checked_value::checked_value;
 use arrayvec::ArrayVec;
 use bytes::BytesMut;
 use ring_payload::{
-    Decode, Encode, Fault, MAX, PROCESSORS, Proc, Reader, RingId, WINDOW_SIZE, read_in_place,
+    Decode, Encode, Fault, MAX, PROCESSORS, Proc, Reader, RingId, WINDOW_SIZE, decode_list_into,
 };
 use std::alloc::{AllocError, Allocator};
 use std::marker::Model;
@@ -62,7 +62,7 @@ impl CommitEntry {
     /// `j` counts from 0 and must be below 256.
     ///
     /// Formats: The commit entry
-    pub fn is_held(&self, j: usize) -> bool
+    pub fn is_held_bit(&self, j: usize) -> bool
         requires { j < window_size }
         ensures { result ≡ bit_of self.now.held j }
     {
@@ -76,7 +76,7 @@ impl CommitEntry {
         requires mark { self.now.mark < 2 ^ 63 }
         ensures { result ≡ is_wrong_bit self.now.front self.now.mark self.now.held j }
     {
-        self.is_held(j) && (j == 0 || self.front + 1 + j as u64 > self.mark + WINDOW_SIZE)
+        self.is_held_bit(j) && (j == 0 || self.front + 1 + j as u64 > self.mark + WINDOW_SIZE)
     }
 
     /// Returns whether byte `byte` has no bit set that must be clear.
@@ -115,21 +115,21 @@ impl CommitEntry {
     }
 
     /// Returns whether front, mark and all bits are 0.
-    fn has_no_report(&self) -> bool
+    fn is_opening_report(&self) -> bool
         ensures { result ≡ nothing_test self.now }
     {
-        self.front == 0 && self.mark == 0 && are_zero(&self.held)
+        self.front == 0 && self.mark == 0 && are_zero_bytes(&self.held)
     }
 
     /// Returns whether the fields are within the limits of an entry, except for those that its commit token sets.
-    fn is_valid(&self) -> bool
+    fn is_valid_entry(&self) -> bool
         ensures { result ≡ entry_test self.now }
     {
         self.mark <= self.front
             && self.front <= MAX
             && self.front <= self.mark + WINDOW_SIZE
             && self.is_held_valid()
-            && (self.old.seq != 0 || self.has_no_report())
+            && (self.old.seq != 0 || self.is_opening_report())
     }
 }
 
@@ -138,15 +138,15 @@ impl Encode for CommitEntry {
 
     ghost encoding = { entry_encoding };
 
-    ghost most = { 57 };
+    ghost max_encoded_len = { 57 };
 
-    ghost fits = { EntryFits };
+    ghost is_within_limits = { EntryFits };
 
-    ghost at = { entry_at };
+    ghost decoding_at_front = { entry_at };
 
-    ghost format = { entry_format };
+    ghost decoding_is_exact = { entry_format };
 
-    fn size(&self) -> usize {
+    fn encoded_len(&self) -> usize {
         57
     }
 
@@ -167,12 +167,12 @@ impl<A: Allocator + Copy> Decode<A> for CommitEntry {
             mark: Decode::read(alloc, from)?,
             held: Decode::read(alloc, from)?,
         };
-        if_valid(entry.is_valid(), entry)
+        checked_value(entry.is_valid_entry(), entry)
     }
 }
 
 /// Returns whether all bytes are 0.
-fn are_zero(bytes: &[u8]) -> bool
+fn are_zero_bytes(bytes: &[u8]) -> bool
     ensures { result ≡ list_all (λ b. b == 0) bytes.now }
 {
     bytes.iter().all(|byte| *byte == 0)
@@ -234,7 +234,7 @@ impl Entries {
     /// Returns a copy of the list.
     ///
     /// Unlike `clone` it can't fail. Does not allocate.
-    pub fn copied(&self) -> Entries
+    pub fn copy_of_entries(&self) -> Entries
         ensures { result ≡ self.now }
     {
         let mut entries = ArrayVec::new();
@@ -251,7 +251,7 @@ impl Clone for Entries {
     ghost is_infallible = { λ _. Unit {0} };
 
     fn clone(&self) -> Result<Entries, AllocError> {
-        Ok(self.copied())
+        Ok(self.copy_of_entries())
     }
 }
 
@@ -266,7 +266,7 @@ impl Entries {
     /// and what is left to read, are then unspecified.
     ///
     /// Formats: The commit entry
-    pub(crate) fn read_into_self<A: Allocator + Copy>(
+    pub(crate) fn decode_entries<A: Allocator + Copy>(
         &mut self,
         alloc: A,
         count: usize,
@@ -274,8 +274,8 @@ impl Entries {
     ) -> Result<(), Fault>
         requires few { count ≤ 16 }
         requires empty { self.old ≡ [] }
-        ensures { IsReadResultBy (λ _. self.new) result from.new (times_at count entry_at from.old) }
+        ensures { IsReadResultBy (λ _. self.new) result from.new (repeated_at count entry_at from.old) }
     {
-        read_in_place(alloc, count, from, &mut self.entries)
+        decode_list_into(alloc, count, from, &mut self.entries)
     }
 }

@@ -16,26 +16,29 @@ ghost use Rattle.ring_wire.specs.Frames.{body_at, frame_at, version_of, encoding
 ghost use Rattle.ring_wire.specs.Prefixes.{IsReadFault, IsEncodedPrefix, HasNoEncodedPrefix, IsReadIntoPlace};
 ghost use Rattle.ring_wire.specs.IsFrameEncoding.{IsFrameEncoding};
 
-use crate::commit_box::CommitBox;
+use crate::commit_box::BoxedCommitToken;
 use crate::join::Join;
 use crate::message::Message;
 use crate::token::{BorrowedToken, Token};
 use bytes::BytesMut;
-use ring_payload::{Decode, Encode, FIRST_VERSION, Fault, Reader, Wire, read_sized, write_sized};
+use ring_payload::{
+    Decode, Encode, FIRST_VERSION, Fault, Reader, Wire, decode_length_prefixed,
+    encode_length_prefixed,
+};
 use std::alloc::{Allocator, Global};
 use std::mem::size_of;
 
 /// The two bytes that every frame begins with.
-const START: [u8; 2] = [0x54, 0x52];
+const FRAME_START: [u8; 2] = [0x54, 0x52];
 
 /// The kinds of frames: this one and the next three.
-const MESSAGE: u8 = 1;
+const MESSAGE_KIND: u8 = 1;
 
-const TOKEN: u8 = 2;
+const TOKEN_KIND: u8 = 2;
 
-const JOIN: u8 = 3;
+const JOIN_KIND: u8 = 3;
 
-const COMMIT: u8 = 4;
+const COMMIT_KIND: u8 = 4;
 
 /// A frame, which one processor sends to others: a message, the token, a join or a commit token.
 ///
@@ -49,7 +52,7 @@ pub enum Frame<A: Allocator + Copy = Global> {
     /// A join, for processors that may form a ring with the sender.
     Join(Join),
     /// A commit token, for the next member of the proposed ring.
-    Commit(CommitBox<A>),
+    Commit(BoxedCommitToken<A>),
 }
 
 /// A frame occupies at most 320 bytes in memory, so that keeping or moving one is cheap.
@@ -61,7 +64,7 @@ impl<A: Allocator + Copy> Frame<A> {
         ensures { result ≡ version_of self.now }
     {
         match self {
-            Frame::Message(message) => message.payload.version(),
+            Frame::Message(message) => message.payload.frame_version(),
             _ => FIRST_VERSION,
         }
     }
@@ -72,43 +75,43 @@ impl<A: Allocator + Copy> Encode for Frame<A> {
 
     ghost encoding = { encoding_of };
 
-    ghost most = { 7321 };
+    ghost max_encoded_len = { 7321 };
 
-    ghost fits = { FrameFits };
+    ghost is_within_limits = { FrameFits };
 
-    ghost at = { frame_at };
+    ghost decoding_at_front = { frame_at };
 
-    ghost format = { frame_format };
+    ghost decoding_is_exact = { frame_format };
 
-    fn size(&self) -> usize {
+    fn encoded_len(&self) -> usize {
         match self {
-            Frame::Message(message) => 8 + message.size(),
-            Frame::Token(token) => 8 + token.size(),
-            Frame::Join(join) => 8 + join.size(),
-            Frame::Commit(commit) => 8 + commit.size(),
+            Frame::Message(message) => 8 + message.encoded_len(),
+            Frame::Token(token) => 8 + token.encoded_len(),
+            Frame::Join(join) => 8 + join.encoded_len(),
+            Frame::Commit(commit) => 8 + commit.encoded_len(),
         }
     }
 
     fn write<B: Allocator + Copy>(&self, out: &mut BytesMut<B>) {
-        START[0].write(out);
-        START[1].write(out);
+        FRAME_START[0].write(out);
+        FRAME_START[1].write(out);
         self.version().write(out);
         match self {
             Frame::Message(message) => {
-                MESSAGE.write(out);
-                write_sized(message, out);
+                MESSAGE_KIND.write(out);
+                encode_length_prefixed(message, out);
             }
             Frame::Token(token) => {
-                TOKEN.write(out);
-                write_sized(token, out);
+                TOKEN_KIND.write(out);
+                encode_length_prefixed(token, out);
             }
             Frame::Join(join) => {
-                JOIN.write(out);
-                write_sized(join, out);
+                JOIN_KIND.write(out);
+                encode_length_prefixed(join, out);
             }
             Frame::Commit(commit) => {
-                COMMIT.write(out);
-                write_sized(commit, out);
+                COMMIT_KIND.write(out);
+                encode_length_prefixed(commit, out);
             }
         }
     }
@@ -128,11 +131,11 @@ fn read_message<A: Allocator + Copy>(
 ) -> Result<(), Fault>
     ensures { IsReadIntoPlace result place.old place.new from.new (body_at version message_kind from.old) }
 {
-    let message: Message<A> = read_sized(alloc, from)?;
-    if version != message.payload.version() {
+    let message: Message<A> = decode_length_prefixed(alloc, from)?;
+    if version != message.payload.frame_version() {
         return Err(Fault::BadFrame);
     }
-    put_message(message, place);
+    place_message(message, place);
     Ok(())
 }
 
@@ -140,18 +143,18 @@ fn read_message<A: Allocator + Copy>(
 ///
 /// A message that is already there is overwritten in place.
 #[inline(always)]
-fn put_message<A: Allocator + Copy>(message: Message<A>, place: &mut Option<Frame<A>>)
+fn place_message<A: Allocator + Copy>(message: Message<A>, place: &mut Option<Frame<A>>)
     ensures { place.new ≡ Some (MessageFrame message) }
 {
     match place {
-        Some(Frame::Message(kept)) => put(message, kept),
-        _ => put(Some(Frame::Message(message)), place),
+        Some(Frame::Message(kept)) => assign_in_place(message, kept),
+        _ => assign_in_place(Some(Frame::Message(message)), place),
     }
 }
 
 /// Overwrites `place` with `value`, and drops the value that was there.
 #[inline(always)]
-fn put<T: Drop>(value: T, place: &mut T)
+fn assign_in_place<T: Drop>(value: T, place: &mut T)
     ensures { place.new ≡ value }
 {
     *place = value;
@@ -170,25 +173,25 @@ fn read_token<A: Allocator + Copy>(
 ) -> Result<(), Fault>
     ensures { IsReadIntoPlace result place.old place.new from.new (body_at version token_kind from.old) }
 {
-    let token = BorrowedToken::read_sized(alloc, from)?;
+    let token = BorrowedToken::decode_length_prefixed(alloc, from)?;
     if version != FIRST_VERSION {
         return Err(Fault::BadFrame);
     }
     match place {
-        Some(Frame::Token(kept)) => token.fill(kept),
-        _ => put_token(&token, place),
+        Some(Frame::Token(kept)) => token.write_to_token(kept),
+        _ => place_token(&token, place),
     }
     Ok(())
 }
 
 /// Puts `token` in `place`, which holds no token yet.
 #[inline(never)]
-fn put_token<A: Allocator + Copy>(token: &BorrowedToken<'_>, place: &mut Option<Frame<A>>)
+fn place_token<A: Allocator + Copy>(token: &BorrowedToken<'_>, place: &mut Option<Frame<A>>)
     ensures { place.new ≡ Some (TokenFrame token.now) }
 {
-    put(Some(Frame::Token(Token::blank())), place);
+    assign_in_place(Some(Frame::Token(Token::blank_token())), place);
     if let Some(Frame::Token(kept)) = place {
-        token.fill(kept);
+        token.write_to_token(kept);
     }
 }
 
@@ -205,13 +208,13 @@ fn read_join<A: Allocator + Copy>(
 ) -> Result<(), Fault>
     ensures { IsReadIntoPlace result place.old place.new from.new (body_at version join_kind from.old) }
 {
-    let join = read_sized(alloc, from)?;
+    let join = decode_length_prefixed(alloc, from)?;
     if version != FIRST_VERSION {
         return Err(Fault::BadFrame);
     }
     match place {
         Some(Frame::Join(kept)) => *kept = join,
-        _ => put(Some(Frame::Join(join)), place),
+        _ => assign_in_place(Some(Frame::Join(join)), place),
     }
     Ok(())
 }
@@ -230,11 +233,11 @@ fn read_commit<A: Allocator + Copy>(
 ) -> Result<(), Fault>
     ensures { IsReadIntoPlace result place.old place.new from.new (body_at version commit_kind from.old) }
 {
-    let commit = read_sized(alloc, from)?;
+    let commit = decode_length_prefixed(alloc, from)?;
     if version != FIRST_VERSION {
         return Err(Fault::BadFrame);
     }
-    put(Some(Frame::Commit(commit)), place);
+    assign_in_place(Some(Frame::Commit(commit)), place);
     Ok(())
 }
 
@@ -245,7 +248,7 @@ fn read_commit<A: Allocator + Copy>(
 ///
 /// Errors: `BadFrame` if no frame begins `from`. `Memory` if an allocation fails. `place` is then unchanged.
 #[tactic(auto, unfolding(crate::specs::Frames::frame_at, crate::specs::Frames::kind_at))]
-fn read_into<A: Allocator + Copy>(
+fn decode_frame_into<A: Allocator + Copy>(
     alloc: A,
     from: &mut Reader<'_>,
     place: &mut Option<Frame<A>>,
@@ -254,16 +257,16 @@ fn read_into<A: Allocator + Copy>(
 {
     let first: u8 = Decode::read(alloc, from)?;
     let second: u8 = Decode::read(alloc, from)?;
-    if first != START[0] || second != START[1] {
+    if first != FRAME_START[0] || second != FRAME_START[1] {
         return Err(Fault::BadFrame);
     }
     let version: u8 = Decode::read(alloc, from)?;
     let kind: u8 = Decode::read(alloc, from)?;
     match kind {
-        MESSAGE => read_message(alloc, version, from, place),
-        TOKEN => read_token(alloc, version, from, place),
-        JOIN => read_join(alloc, version, from, place),
-        COMMIT => read_commit(alloc, version, from, place),
+        MESSAGE_KIND => read_message(alloc, version, from, place),
+        TOKEN_KIND => read_token(alloc, version, from, place),
+        JOIN_KIND => read_join(alloc, version, from, place),
+        COMMIT_KIND => read_commit(alloc, version, from, place),
         _ => Err(Fault::BadFrame),
     }
 }
@@ -271,7 +274,7 @@ fn read_into<A: Allocator + Copy>(
 impl<A: Allocator + Copy> Decode<A> for Frame<A> {
     fn read(alloc: A, from: &mut Reader<'_>) -> Result<Frame<A>, Fault> {
         let mut place = None;
-        read_into(alloc, from, &mut place)?;
+        decode_frame_into(alloc, from, &mut place)?;
         match place {
             Some(frame) => Ok(frame),
             None => unreachable!(),
@@ -288,7 +291,11 @@ impl<A: Allocator + Copy> Frame<A> {
     /// `src`. `place` is then unchanged.
     ///
     /// Formats: Frames
-    pub fn get_into(alloc: A, src: &[u8], place: &mut Option<Frame<A>>) -> Result<usize, Fault>
+    pub fn decode_first_frame_into(
+        alloc: A,
+        src: &[u8],
+        place: &mut Option<Frame<A>>,
+    ) -> Result<usize, Fault>
         ensures found { IfOk result (λ len. IfSome place.new (λ frame. IsEncodedPrefix encoding_of FrameFits src.now frame len)) }
         ensures placed { OnOk result (IsSome place.new) }
         ensures bad { IfErr result (λ fault. fault ≡ BadFrame → HasNoEncodedPrefix {A = OneFrame A} encoding_of FrameFits src.now) }
@@ -296,7 +303,7 @@ impl<A: Allocator + Copy> Frame<A> {
         ensures kept { OnErr result (place.new ≡ place.old) }
     {
         let mut from = Reader::new(src);
-        read_into(alloc, &mut from, place)?;
+        decode_frame_into(alloc, &mut from, place)?;
         Ok(src.len() - from.len())
     }
 }

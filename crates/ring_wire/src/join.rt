@@ -30,7 +30,7 @@ impl Join {
     ghost use Rattle.ring_wire.specs.Joins.{join_test};
 
     /// Returns whether the fields are within the limits of their format.
-    fn is_valid(&self) -> bool
+    fn is_valid_join(&self) -> bool
         ensures { result ≡ join_test self.now }
     {
         self.number <= MAX
@@ -45,15 +45,15 @@ impl Encode for Join {
 
     ghost encoding = { join_encoding };
 
-    ghost most = { 13 };
+    ghost max_encoded_len = { 13 };
 
-    ghost fits = { JoinFits };
+    ghost is_within_limits = { JoinFits };
 
-    ghost at = { join_at };
+    ghost decoding_at_front = { join_at };
 
-    ghost format = { join_format };
+    ghost decoding_is_exact = { join_format };
 
-    fn size(&self) -> usize {
+    fn encoded_len(&self) -> usize {
         13
     }
 
@@ -74,7 +74,7 @@ impl<A: Allocator + Copy> Decode<A> for Join {
             proc_set: Decode::read(alloc, from)?,
             fail_set: Decode::read(alloc, from)?,
         };
-        if !join.is_valid() {
+        if !join.is_valid_join() {
             return Err(Fault::BadFrame);
         }
         Ok(join)

@@ -5,7 +5,7 @@
 ghost use Rattle.std.specs.Prelude.{◌≡◌, ℕ, ◌+◌, ◌^◌, ◌<◌, ◌≤◌, List, [], ◌∷◌, ◌++◌, length};
 ghost use Rattle.ring_payload.specs.Codecs.{Appends, IsReadResult};
 
-use crate::valid::if_valid;
+use crate::checked_value::checked_value;
 use bytes::BytesMut;
 use ring_payload::{Decode, Encode, Fault, MAX, Payload, Proc, Reader, RingId};
 use std::alloc::{Allocator, Global};
@@ -31,12 +31,12 @@ pub struct Message<A: Allocator + Copy = Global> {
 }
 
 impl<A: Allocator + Copy> Message<A> {
-    ghost use Rattle.ring_wire.specs.Messages.{is_older, message_test};
+    ghost use Rattle.ring_wire.specs.Messages.{is_wrapped_older, message_test};
 
     /// Returns whether the old ring of a Wrapped has a lower number than the message's ring; true for any other
     /// payload.
-    fn is_older(&self) -> bool
-        ensures { result ≡ is_older self.now.payload self.now.ring }
+    fn is_wrapped_older(&self) -> bool
+        ensures { result ≡ is_wrapped_older self.now.payload self.now.ring }
     {
         match &self.payload {
             Payload::Wrapped(wrapped) => wrapped.ring.seq < self.ring.seq,
@@ -45,10 +45,10 @@ impl<A: Allocator + Copy> Message<A> {
     }
 
     /// Returns whether the fields are within the limits of their format.
-    fn is_valid(&self) -> bool
+    fn is_valid_message(&self) -> bool
         ensures { result ≡ message_test self.now }
     {
-        self.ring.seq >= 1 && self.number >= 1 && self.number <= MAX && self.is_older()
+        self.ring.seq >= 1 && self.number >= 1 && self.number <= MAX && self.is_wrapped_older()
     }
 }
 
@@ -57,16 +57,16 @@ impl<A: Allocator + Copy> Encode for Message<A> {
 
     ghost encoding = { message_encoding };
 
-    ghost most = { 7313 };
+    ghost max_encoded_len = { 7313 };
 
-    ghost fits = { MessageFits };
+    ghost is_within_limits = { MessageFits };
 
-    ghost at = { message_at };
+    ghost decoding_at_front = { message_at };
 
-    ghost format = { message_format };
+    ghost decoding_is_exact = { message_format };
 
-    fn size(&self) -> usize {
-        18 + self.payload.size()
+    fn encoded_len(&self) -> usize {
+        18 + self.payload.encoded_len()
     }
 
     fn write<B: Allocator + Copy>(&self, out: &mut BytesMut<B>) {
@@ -86,6 +86,6 @@ impl<A: Allocator + Copy> Decode<A> for Message<A> {
             sender: Decode::read(alloc, from)?,
             payload: Decode::read(alloc, from)?,
         };
-        if_valid(message.is_valid(), message)
+        checked_value(message.is_valid_message(), message)
     }
 }

@@ -8,7 +8,7 @@ ghost use Rattle.ring_payload.specs.Codecs.{Appends, IsReadResult};
 
 use arrayvec::ArrayVec;
 use bytes::BytesMut;
-use ring_payload::{Decode, Encode, EncodedNumbers, Fault, Reader, write_many};
+use ring_payload::{Decode, Encode, EncodedNumbers, Fault, Reader, encode_list};
 use std::alloc::{AllocError, Allocator};
 use std::marker::Model;
 
@@ -79,7 +79,7 @@ impl Requests {
     /// Replaces the numbers of the list by `numbers`, in order.
     ///
     /// They must be at most 32. Does not allocate.
-    pub(crate) fn fill(&mut self, numbers: &EncodedNumbers<'_>)
+    pub(crate) fn replace_with(&mut self, numbers: &EncodedNumbers<'_>)
         requires { length numbers.now ≤ 32 }
         ensures { self.new ≡ numbers.now }
     {
@@ -92,7 +92,7 @@ impl Requests {
     /// Returns a copy of the list.
     ///
     /// Unlike `clone` it can't fail. Does not allocate.
-    pub fn copied(&self) -> Requests
+    pub fn copy_of_requests(&self) -> Requests
         ensures { result ≡ self.now }
     {
         let mut numbers = ArrayVec::new();
@@ -109,7 +109,7 @@ impl Clone for Requests {
     ghost is_infallible = { λ _. Unit {0} };
 
     fn clone(&self) -> Result<Requests, AllocError> {
-        Ok(self.copied())
+        Ok(self.copy_of_requests())
     }
 }
 
@@ -118,22 +118,22 @@ impl Encode for Requests {
 
     ghost encoding = { requests_encoding };
 
-    ghost most = { 257 };
+    ghost max_encoded_len = { 257 };
 
-    ghost fits = { RequestsFit };
+    ghost is_within_limits = { RequestsFit };
 
-    ghost at = { requests_at };
+    ghost decoding_at_front = { requests_at };
 
-    ghost format = { requests_format };
+    ghost decoding_is_exact = { requests_format };
 
-    fn size(&self) -> usize {
+    fn encoded_len(&self) -> usize {
         1 + 8 * self.as_slice().len()
     }
 
     fn write<B: Allocator + Copy>(&self, out: &mut BytesMut<B>) {
         let numbers = self.as_slice();
         (numbers.len() as u8).write(out);
-        write_many(numbers, out);
+        encode_list(numbers, out);
     }
 }
 
@@ -149,7 +149,7 @@ impl Requests {
     ///
     /// Formats: Frames
     #[tactic(auto, unfolding(crate::specs::Tokens::requests_at))]
-    pub(crate) fn borrow_numbers<'a, A: Allocator + Copy>(
+    pub(crate) fn read_borrowed_requests<'a, A: Allocator + Copy>(
         alloc: A,
         from: &mut Reader<'a>,
     ) -> Result<EncodedNumbers<'a>, Fault>
@@ -167,9 +167,9 @@ impl Requests {
 
 impl<A: Allocator + Copy> Decode<A> for Requests {
     fn read(alloc: A, from: &mut Reader<'_>) -> Result<Requests, Fault> {
-        let numbers = Requests::borrow_numbers(alloc, from)?;
+        let numbers = Requests::read_borrowed_requests(alloc, from)?;
         let mut requests = Requests::new();
-        requests.fill(&numbers);
+        requests.replace_with(&numbers);
         Ok(requests)
     }
 }

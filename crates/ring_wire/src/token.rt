@@ -5,7 +5,7 @@
 
 ghost use Rattle.std.specs.Prelude.{◌≡◌, ℕ, ◌+◌, ◌^◌, ◌<◌, ◌≤◌, List, [], ◌∷◌, ◌++◌, length};
 ghost use Rattle.ring_payload.specs.Codecs.{Appends, IsReadResult, sized_at};
-ghost use Rattle.ring_wire.specs.Ascending.{ascends as ascends_to};
+ghost use Rattle.ring_wire.specs.Ascending.{is_ascending_within as ascends_to};
 
 use crate::requests::Requests;
 use bytes::BytesMut;
@@ -36,10 +36,10 @@ pub struct Token {
 }
 
 impl Token {
-    /// Returns a blank token for [`BorrowedToken::fill`] to overwrite.
+    /// Returns a blank token for [`BorrowedToken::write_to_token`] to overwrite.
     ///
     /// It isn't within the limits of its format.
-    pub(crate) fn blank() -> Token {
+    pub(crate) fn blank_token() -> Token {
         Token {
             ring: RingId {
                 seq: 0,
@@ -102,10 +102,10 @@ impl<'a> BorrowedToken<'a> {
             seq: Decode::read(alloc, from)?,
             aru: Decode::read(alloc, from)?,
             aru_id: Decode::read(alloc, from)?,
-            requests: Requests::borrow_numbers(alloc, from)?,
+            requests: Requests::read_borrowed_requests(alloc, from)?,
         };
-        let is_valid = token.is_valid();
-        token.if_valid(is_valid)
+        let is_valid = token.is_valid_token();
+        token.checked_token(is_valid)
     }
 
     /// Decodes a length in bytes, a big-endian `u32`, and then a token that takes exactly that many bytes.
@@ -115,16 +115,16 @@ impl<'a> BorrowedToken<'a> {
     /// Errors: `BadFrame` if `from` doesn't begin with such a token. What is then left to read is unspecified.
     ///
     /// Formats: Frames
-    pub(crate) fn read_sized<A: Allocator + Copy>(
+    pub(crate) fn decode_length_prefixed<A: Allocator + Copy>(
         alloc: A,
         from: &mut Reader<'a>,
     ) -> Result<BorrowedToken<'a>, Fault>
         ensures { IsReadResult result from.new (sized_at token_at from.old) }
     {
         let len: u32 = Decode::read(alloc, from)?;
-        let mut body = Reader::new(from.take(len as usize)?);
+        let mut body = Reader::new(from.take_bytes(len as usize)?);
         let token = BorrowedToken::read(alloc, &mut body)?;
-        token.if_valid(body.len() == 0)
+        token.checked_token(body.len() == 0)
     }
 
     /// Returns whether `aru_id` is `None` exactly if `aru` equals `seq`.
@@ -139,7 +139,7 @@ impl<'a> BorrowedToken<'a> {
     }
 
     /// Returns whether the fields are within the limits of their format.
-    fn is_valid(&self) -> bool
+    fn is_valid_token(&self) -> bool
         ensures { result ≡ token_test self.now }
     {
         self.ring.seq >= 1
@@ -148,14 +148,14 @@ impl<'a> BorrowedToken<'a> {
             && self.aru <= self.seq
             && self.seq <= MAX
             && self.is_aru_id_valid()
-            && ascends(&self.requests, self.seq)
+            && requests_ascend(&self.requests, self.seq)
     }
 
     /// Returns the token if `holds` is true.
     ///
     /// Errors: `BadFrame` if it is false.
     #[inline(always)]
-    fn if_valid(self, holds: bool) -> Result<BorrowedToken<'a>, Fault>
+    fn checked_token(self, holds: bool) -> Result<BorrowedToken<'a>, Fault>
         ensures { (rest : List ℕ) → IsReadResult result rest (if holds then Some (self.entry, rest) else None) }
     {
         if holds {
@@ -168,7 +168,7 @@ impl<'a> BorrowedToken<'a> {
     /// Overwrites all fields of `token` with those of this token.
     ///
     /// Does not allocate.
-    pub(crate) fn fill(&self, token: &mut Token)
+    pub(crate) fn write_to_token(&self, token: &mut Token)
         ensures { token.new ≡ self.now }
     {
         token.ring = self.ring;
@@ -176,12 +176,12 @@ impl<'a> BorrowedToken<'a> {
         token.seq = self.seq;
         token.aru = self.aru;
         token.aru_id = self.aru_id;
-        token.requests.fill(&self.requests);
+        token.requests.replace_with(&self.requests);
     }
 }
 
 /// Returns whether the numbers ascend strictly and are all 1 to `greatest`.
-fn ascends(numbers: &EncodedNumbers<'_>, greatest: u64) -> bool
+fn requests_ascend(numbers: &EncodedNumbers<'_>, greatest: u64) -> bool
     ensures { result ≡ ascends_to 0 greatest numbers.now }
 {
     let mut low = 0;
@@ -200,16 +200,16 @@ impl Encode for Token {
 
     ghost encoding = { token_encoding };
 
-    ghost most = { 291 };
+    ghost max_encoded_len = { 291 };
 
-    ghost fits = { TokenFits };
+    ghost is_within_limits = { TokenFits };
 
-    ghost at = { token_at };
+    ghost decoding_at_front = { token_at };
 
-    ghost format = { token_format };
+    ghost decoding_is_exact = { token_format };
 
-    fn size(&self) -> usize {
-        34 + self.requests.size()
+    fn encoded_len(&self) -> usize {
+        34 + self.requests.encoded_len()
     }
 
     fn write<B: Allocator + Copy>(&self, out: &mut BytesMut<B>) {
@@ -224,9 +224,9 @@ impl Encode for Token {
 
 impl<A: Allocator + Copy> Decode<A> for Token {
     fn read(alloc: A, from: &mut Reader<'_>) -> Result<Token, Fault> {
-        let borrow_numbers = BorrowedToken::read(alloc, from)?;
-        let mut token = Token::blank();
-        borrow_numbers.fill(&mut token);
+        let borrowed_token = BorrowedToken::read(alloc, from)?;
+        let mut token = Token::blank_token();
+        borrowed_token.write_to_token(&mut token);
         Ok(token)
     }
 }

@@ -10,7 +10,7 @@ use Rattle.ring_core_spec.specs.declared.out.Out.{Out}
 use Rattle.ring_log.specs.KnownLog.{KnownLog, known_log_of, retained_log, is_known_log_sound}
 use Rattle.ring_log.specs.Logs.{committed_calls}
 use Rattle.ring_node_spec.specs.EpochHistories.{epochs_after}
-use Rattle.ring_node_spec.specs.DueSends.{due_by}
+use Rattle.ring_node_spec.specs.DueSends.{due_of_outputs}
 use Rattle.ring_node_spec.specs.declared.input.Input.{Input}
 use Rattle.ring_node_spec.specs.declared.input.Input.TheVariants.{Frame as FrameInput, Noise as NoiseInput, Timeout as TimeInput, Stop as StopInput}
 use Rattle.ring_node_spec.specs.Nodes.{Node, node_known_log, is_closed, is_restored}
@@ -39,7 +39,7 @@ module _ {O A : Type 0} (object : Sequential O) where
   core-goes n s calls h =
       let epochs = epochs_after n.epochs s.outs in
       settled-goes (is_known_log_sound n.group epochs && is_restored object (known_log_of n.group epochs)) n
-      (node_after_outputs n s.core epochs (due_by object n s.core n.epochs s.outs)) s.outs (known_log_of n.group epochs) calls refl h
+      (node_after_outputs n s.core epochs (due_of_outputs object n s.core n.epochs s.outs)) s.outs (known_log_of n.group epochs) calls refl h
 
   pub step-goes : (n : Node A) (input : Input A) (calls : List (Option (Call A))) → Holds calls n.tickets n.done → CopiesGoOn calls (node_step object n input)
   step-goes n (FrameInput frame) calls h = core-goes n (ring_step n.core (CoreFrame frame)) calls h

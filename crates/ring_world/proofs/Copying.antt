@@ -8,10 +8,10 @@ use Rattle.ring_core_spec.specs.State.{Transmission}
 use Rattle.ring_node_spec.specs.Nodes.{Node}
 use Rattle.ring_node_spec.specs.declared.event.Event.{Event}
 use Rattle.ring_node_spec.specs.declared.item.Item.{Item}
-use Rattle.ring_node_spec.specs.declared.told.Told.{Told}
+use Rattle.ring_node_spec.specs.declared.client_report.Told.{Told}
 use Rattle.ring_node_spec.specs.Worlds.{World, world_opening, run}
 use Rattle.ring_world.specs.SpareCalls.{SpareCalls, Holds}
-use Rattle.ring_world.specs.Keeping.{KeepsCopies, IsWorldKept, IsWorld}
+use Rattle.ring_world.specs.WorldInvariant.{KeepsCopies, IsWorldKept, IsWorld}
 
 -- the same copies of calls, whatever the room
 abbrev pub HasSameCalls : {A : Type 0} → SpareCalls A → SpareCalls A → Type 0

@@ -7,12 +7,12 @@ use Rattle.ring_base.specs.declared.fault.Fault.{Fault}
 use Rattle.ring_base.specs.declared.fault.Fault.TheVariants.{NotMember, PendingFull, OpTooLong, Conflict, Stale, NumberGap, SessionsFull}
 use Rattle.ring_base.specs.declared.fault.Fault.TheVariants.{Stopped, BookFull, Stranger, Memory, BadFrame, BadScript, NoAnswer, BadSnapshot}
 use Rattle.ring_payload.specs.declared.call.Call.{Call}
-use Rattle.ring_session.specs.declared.answered.TicketAnswer.{TicketAnswer}
+use Rattle.ring_session.specs.declared.ticket_answer.TicketAnswer.{TicketAnswer}
 use Rattle.ring_node_spec.specs.Nodes.{Node}
 use Rattle.ring_node_spec.specs.Stepping.{submit_fault}
-use Rattle.ring_node_spec.specs.declared.told.Told.{Told}
-use Rattle.ring_node_spec.specs.declared.told.Told.TheVariants.{Answer as ToldAnswer, Refused as ToldRefused}
-use Rattle.ring_node_spec.specs.Worlds.{told_by}
+use Rattle.ring_node_spec.specs.declared.client_report.Told.{Told}
+use Rattle.ring_node_spec.specs.declared.client_report.Told.TheVariants.{Answer as ToldAnswer, Refused as ToldRefused}
+use Rattle.ring_node_spec.specs.Worlds.{reports_of_answers}
 use Rattle.ring_world.specs.WorldView.{is_memory_refusal, told_of_events}
 use Rattle.ring_world.proofs.SubmitRefused.{not_memory}
 
@@ -36,7 +36,7 @@ other_number BadScript other = refl
 other_number NoAnswer other = refl
 other_number BadSnapshot other = refl
 
-told_of_events-answers : {A : Type 0} (i : ℕ) (answers : List (TicketAnswer A)) → told_of_events (told_by i answers) ≡ told_by i answers
+told_of_events-answers : {A : Type 0} (i : ℕ) (answers : List (TicketAnswer A)) → told_of_events (reports_of_answers i answers) ≡ reports_of_answers i answers
 told_of_events-answers i [] = refl
 told_of_events-answers i (a ∷ rest) = ap (λ ts. ToldAnswer i a.call a.answer ∷ ts) (told_of_events-answers i rest)
 
@@ -47,9 +47,9 @@ told_of_events-refusal n f i c is =
 
 module _ {A : Type 0} (told now : List (Told A)) (h : told_of_events told ≡ now) where
   -- a step has answered
-  pub tells_answers : (i : ℕ) (answers : List (TicketAnswer A)) → told_of_events (told ++ told_by i answers) ≡ now ++ told_by i answers
+  pub tells_answers : (i : ℕ) (answers : List (TicketAnswer A)) → told_of_events (told ++ reports_of_answers i answers) ≡ now ++ reports_of_answers i answers
   tells_answers i answers =
-      told_of_events-append told (told_by i answers) ∙ ap (λ ts. ts ++ told_of_events (told_by i answers)) h
+      told_of_events-append told (reports_of_answers i answers) ∙ ap (λ ts. ts ++ told_of_events (reports_of_answers i answers)) h
       ∙ ap (λ ts. now ++ ts) (told_of_events-answers i answers)
 
   -- a submit was refused for a reason other than memory

@@ -15,7 +15,7 @@ use Rattle.ring_node_spec.specs.declared.event.Event.TheVariants.{Issue, Deliver
 use Rattle.ring_node_spec.specs.declared.input.Input.{Input}
 use Rattle.ring_node_spec.specs.declared.input.Input.TheVariants.{Frame as FrameInput, Timeout as TimeInput}
 use Rattle.ring_node_spec.specs.WorldLimits.{EventFits}
-use Rattle.ring_node_spec.specs.Worlds.{World, is_node, happens, stepped, stepped_if, handed, handed_if}
+use Rattle.ring_node_spec.specs.Worlds.{World, is_node, world_after_event, world_after_node_step, world_after_input_if_member, world_after_delivery, world_after_receipt_if_sent}
 use Rattle.ring_world.specs.WorldView.{WorldView, world_of, receiver_of_frame, stepping_node_in}
 use Rattle.ring_world.specs.Steps.{stepping_node, delivered_frame, event_input}
 
@@ -23,27 +23,27 @@ module _ {O A : Type 0} (object : Sequential O) where
   -- the world after a step by an input, if there is an input
   abbrev pub takes : World A → ℕ → Option (Input A) → World A
   takes w i None = w
-  takes w i (Some input) = stepped object w i input
+  takes w i (Some input) = world_after_node_step object w i input
 
-  hands_if : (b : Bool) (w : World A) (i : ℕ) (frame : Frame A) → handed_if object b w i frame
+  hands_if : (b : Bool) (w : World A) (i : ℕ) (frame : Frame A) → world_after_receipt_if_sent object b w i frame
       ≡ takes w i (option_map (λ (f : Frame A). FrameInput f) (if b then Some frame else None))
   hands_if true w i frame = refl
   hands_if false w i frame = refl
 
-  handed_is : (w : World A) (i : ℕ) (o : Option (Transmission A)) → handed object w i o
+  handed_is : (w : World A) (i : ℕ) (o : Option (Transmission A)) → world_after_delivery object w i o
       ≡ takes w i (option_map (λ (f : Frame A). FrameInput f) (frame_for i o))
   handed_is w i None = refl
   handed_is w i (Some f) = hands_if (has f.to i) w i f.frame
 
   -- an event that may be a step is one by that input
-  pub event_is : (w : World A) (e : Event A) (i : ℕ) → stepping_node e ≡ Some i → happens object w e ≡ takes w i (event_input e (delivered_frame e w.frames))
+  pub event_is : (w : World A) (e : Event A) (i : ℕ) → stepping_node e ≡ Some i → world_after_event object w e ≡ takes w i (event_input e (delivered_frame e w.frames))
   event_is w (Deliver j k) i e =
       let same : j ≡ i = cc e in
-      subst (λ x. happens object w (Deliver j k) ≡ takes w x (event_input (Deliver j k) (delivered_frame (Deliver j k) w.frames))) same
+      subst (λ x. world_after_event object w (Deliver j k) ≡ takes w x (event_input (Deliver j k) (delivered_frame (Deliver j k) w.frames))) same
       (handed_is w j (frame_at w.frames k))
   event_is w (Timeout j kind) i e =
       let same : j ≡ i = cc e in
-      subst (λ x. stepped object w j (TimeInput kind) ≡ stepped object w x (TimeInput kind)) same refl
+      subst (λ x. world_after_node_step object w j (TimeInput kind) ≡ world_after_node_step object w x (TimeInput kind)) same refl
   event_is w (Issue j c) i e = absurd (let q : ⊥ = cc e in q)
   event_is w (Noise j bytes) i e = absurd (let q : ⊥ = cc e in q)
   event_is w (Stop j) i e = absurd (let q : ⊥ = cc e in q)
@@ -98,12 +98,12 @@ pub record IsStepBy {O A : Type 0} (object : Sequential O) (old : WorldView A) (
   pub input : Input A
   pub there : event_input e place ≡ Some input
   pub fits : InputFits input
-  pub same : happens object (world_of object old) e ≡ stepped object (world_of object old) i input
+  pub same : world_after_event object (world_of object old) e ≡ world_after_node_step object (world_of object old) i input
   pub steps : stepping_node_in (world_of object old) e ≡ Some i
 
 module _ {O A : Type 0} (object : Sequential O) {p old : WorldView A} {frames : List (Transmission A)} (e : Event A) (i : ℕ) (was : p ≡ old)
     (frames_are : frames ≡ (world_of object p).frames) (may : stepping_node e ≡ Some i) where
-  now_is : happens object (world_of object old) e ≡ takes object (world_of object old) i (event_input e (delivered_frame e frames))
+  now_is : world_after_event object (world_of object old) e ≡ takes object (world_of object old) i (event_input e (delivered_frame e frames))
   now_is = event_is object (world_of object old) e i may
       ∙ ap (λ fs. takes object (world_of object old) i (event_input e (delivered_frame e fs)))
       (ap (λ (r : WorldView A). (world_of object r).frames) (sym was) ∙ sym frames_are)
@@ -113,15 +113,15 @@ module _ {O A : Type 0} (object : Sequential O) {p old : WorldView A} {frames : 
 
   unknown_takes : (o : Option (Input A)) → is_node (world_of object old) i ≡ false → takes object (world_of object old) i o ≡ world_of object old
   unknown_takes None none = refl
-  unknown_takes (Some input) none = ap (λ b. stepped_if object b (world_of object old) i input) none
+  unknown_takes (Some input) none = ap (λ b. world_after_input_if_member object b (world_of object old) i input) none
 
   -- there is no such node
-  pub unknown_step : is_node (world_of object old) i ≡ false → happens object (world_of object old) e ≡ world_of object old
+  pub unknown_step : is_node (world_of object old) i ≡ false → world_after_event object (world_of object old) e ≡ world_of object old
   unknown_step none = now_is ∙ unknown_takes (event_input e (delivered_frame e frames)) none
 
   module _ {is : Bool} (is_is : is ≡ is_some (event_input e (delivered_frame e frames))) where
     -- there is no such frame
-    pub not_read : is ≡ false → happens object (world_of object old) e ≡ world_of object old
+    pub not_read : is ≡ false → world_after_event object (world_of object old) e ≡ world_of object old
     not_read missing = now_is ∙ takes_none (event_input e (delivered_frame e frames)) (none_of (event_input e (delivered_frame e frames)) (sym is_is ∙ missing))
 
     pub read : {place : Option (Frame A)} → (is ≡ true → event_input e place ≡ event_input e (delivered_frame e frames)) → is ≡ true

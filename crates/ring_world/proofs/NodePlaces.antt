@@ -14,11 +14,11 @@ use Rattle.ring_core_spec.specs.State.{Transmission}
 use Rattle.ring_node_spec.specs.Nodes.{Node}
 use Rattle.ring_node_spec.specs.declared.event.Event.{Event}
 use Rattle.ring_node_spec.specs.declared.item.Item.{Item}
-use Rattle.ring_node_spec.specs.declared.told.Told.{Told}
-use Rattle.ring_node_spec.specs.Worlds.{World, put, is_node}
+use Rattle.ring_node_spec.specs.declared.client_report.Told.{Told}
+use Rattle.ring_node_spec.specs.Worlds.{World, with_node, is_node}
 use Rattle.ring_world.specs.WorldView.{WorldView, told_of_events, world_of}
 use Rattle.ring_world.specs.SpareCalls.{SpareCalls, Holds}
-use Rattle.ring_world.specs.Keeping.{KeepsCopies, IsWorldKept, IsWorld}
+use Rattle.ring_world.specs.WorldInvariant.{KeepsCopies, IsWorldKept, IsWorld}
 
 -- the lists are those of a world, with its processor i at index m of the nodes
 pub record Stands {O A : Type 0} (object : Sequential O) (p old : WorldView A) (nodes : List (Node A)) (spares : List (SpareCalls A))
@@ -134,13 +134,13 @@ module _ {O A : Type 0} {object : Sequential O} {p old : WorldView A} {nodes : L
 
   -- Another node
 
-  put_at : (n : Node A) (j : ℕ) → j ≡ m → put w.nodes i n (suc j) ≡ n
+  put_at : (n : Node A) (j : ℕ) → j ≡ m → with_node w.nodes i n (suc j) ≡ n
   put_at n j e = cond-true (suc j == i) n (w.nodes (suc j)) (let q : suc j ≡ i = ap suc e ∙ next in eq_test (suc j) i q)
 
-  put_other : (n : Node A) (j : ℕ) → (j ≡ m → ⊥) → put w.nodes i n (suc j) ≡ w.nodes (suc j)
+  put_other : (n : Node A) (j : ℕ) → (j ≡ m → ⊥) → with_node w.nodes i n (suc j) ≡ w.nodes (suc j)
   put_other n j f = cond-false (suc j == i) n (w.nodes (suc j)) (not_test (suc j) i (λ q. f (let x = next in omega (arith, q, x))))
 
-  nodes_put : (n : Node A) (j : ℕ) → j < w.group.count → slice_get (slice_set nodes m n) j ≡ Some (put w.nodes i n (suc j))
+  nodes_put : (n : Node A) (j : ℕ) → j < w.group.count → slice_get (slice_set nodes m n) j ≡ Some (with_node w.nodes i n (suc j))
   nodes_put n j l = elim (cases_Bool (j == m)) [
     | inl t ↦
         let e = eqb-true j m t in
@@ -151,7 +151,7 @@ module _ {O A : Type 0} {object : Sequential O} {p old : WorldView A} {nodes : L
   ]
 
   abbrev pub Copied : Node A → List (SpareCalls A) → Type 0
-  Copied n ss = (j : ℕ) → j < w.group.count → (s : SpareCalls A) × (slice_get ss j ≡ Some s) × KeepsCopies (put w.nodes i n (suc j)) s
+  Copied n ss = (j : ℕ) → j < w.group.count → (s : SpareCalls A) × (slice_get ss j ≡ Some s) × KeepsCopies (with_node w.nodes i n (suc j)) s
 
   pub copies_set : (n : Node A) (s : SpareCalls A) → KeepsCopies n s → Copied n (slice_set spares m s)
   copies_set n s k j l = elim (cases_Bool (j == m)) [
@@ -179,7 +179,7 @@ module _ {O A : Type 0} {object : Sequential O} {p old : WorldView A} {nodes : L
   ]
 
   pub put_kept : {ss : List (SpareCalls A)} {fs : List (Transmission A)} {is : List (Item A)} {ts : List (Told A)} {ls : List (Call A)} {v : World A} (n : Node A) →
-      v.group ≡ w.group → v.nodes ≡ put w.nodes i n → v.frames ≡ fs → v.history ≡ is → v.told ≡ told_of_events ts → v.longest ≡ ls →
+      v.group ≡ w.group → v.nodes ≡ with_node w.nodes i n → v.frames ≡ fs → v.history ≡ is → v.told ≡ told_of_events ts → v.longest ≡ ls →
       Copied n ss → length ss ≡ length spares → IsWorldKept v (slice_set nodes m n) ss fs is ts ls
   put_kept {v = v} n g ns f hs t l copied many =
       let cs : v.group.count ≡ w.group.count = ap (λ (x : Group). x.count) g in

@@ -4,7 +4,7 @@ use Rattle.std.proofs.lemmas.List.{length-map}
 use Rattle.std.specs.List.{AllByRecursion}
 use Rattle.ring_base.specs.Group.{Group}
 use Rattle.ring_base.specs.Numbers.{numbers_from}
-use Rattle.ring_base.specs.Passing.{length-numbers_from}
+use Rattle.ring_base.specs.FilteredRanges.{length-numbers_from}
 use Rattle.ring_base.proofs.ListPlaces.{get-numbers}
 use Rattle.ring_object.specs.Operations.{Sequential}
 use Rattle.ring_payload.specs.declared.call.Call.{Call}
@@ -12,9 +12,9 @@ use Rattle.ring_core_spec.specs.State.{Transmission}
 use Rattle.ring_node_spec.specs.Nodes.{Node, node_opening}
 use Rattle.ring_node_spec.specs.declared.event.Event.{Event}
 use Rattle.ring_node_spec.specs.declared.item.Item.{Item}
-use Rattle.ring_node_spec.specs.declared.told.Told.{Told}
+use Rattle.ring_node_spec.specs.declared.client_report.Told.{Told}
 use Rattle.ring_world.specs.SpareCalls.{SpareCalls, Holds}
-use Rattle.ring_world.specs.Keeping.{KeepsCopies, IsWorld}
+use Rattle.ring_world.specs.WorldInvariant.{KeepsCopies, IsWorld}
 
 none_asked : {A : Type 0} (done : List (Call A)) (s : SpareCalls A) → s.calls ≡ [] → Holds s.calls [] done
 none_asked done s none = record { many = ap length none; each = λ k t asked. absurd (let q : ⊥ = cc asked in q) }

@@ -8,11 +8,11 @@ use Rattle.ring_log.specs.EpochHistories.{committed_of}
 use Rattle.ring_log.proofs.LongerLists.{length-longer_list}
 use Rattle.ring_node_spec.specs.Nodes.{Node}
 use Rattle.ring_node_spec.specs.declared.item.Item.{Item}
-use Rattle.ring_node_spec.specs.declared.told.Told.{Told}
+use Rattle.ring_node_spec.specs.declared.client_report.Told.{Told}
 use Rattle.ring_node_spec.specs.Orders.{order_of}
 use Rattle.ring_node_spec.specs.Worlds.{World, whole_epochs_in, order}
 use Rattle.ring_session.specs.Deduplicated.{deduplicated}
-use Rattle.ring_world.specs.Keeping.{IsWorldKept}
+use Rattle.ring_world.specs.WorldInvariant.{IsWorldKept}
 use Rattle.ring_world.specs.Ordering.{effects_of, effects_of_nodes}
 use Rattle.ring_world.specs.SpareCalls.{SpareCalls}
 

@@ -5,7 +5,7 @@ use Rattle.ring_base.specs.Group.{Group}
 use Rattle.ring_object.specs.Operations.{Sequential}
 use Rattle.ring_node_spec.specs.declared.event.Event.{Event}
 use Rattle.ring_node_spec.specs.declared.event.Event.TheVariants.{Stop}
-use Rattle.ring_node_spec.specs.declared.told.Told.{Told}
+use Rattle.ring_node_spec.specs.declared.client_report.Told.{Told}
 use Rattle.ring_node_spec.specs.Worlds.{World, world_opening, run}
 use Rattle.ring_order_proof.proofs.ConsistentRuns.{run-append}
 use Rattle.ring_world.specs.WorldView.{WorldView, world_of, IsEventOutcome, IsRunOfEvents}

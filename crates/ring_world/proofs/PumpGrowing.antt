@@ -15,8 +15,8 @@ use Rattle.ring_node_spec.specs.declared.input.Input.TheVariants.{Frame as Frame
 use Rattle.ring_node_spec.specs.Stepping.{node_step, submit_fault}
 use Rattle.ring_node_spec.specs.declared.event.Event.{Event}
 use Rattle.ring_node_spec.specs.declared.event.Event.TheVariants.{Issue, Deliver, Noise, Timeout, Stop}
-use Rattle.ring_node_spec.specs.Worlds.{World, carried_frames, issued_or, issued_if, stopped_if, stepped_if}
-use Rattle.ring_node_spec.specs.Worlds.{handed_if, handed, is_node, happens, run}
+use Rattle.ring_node_spec.specs.Worlds.{World, carried_frames, world_after_submit, world_after_submit_if_member, world_after_stop_if_member, world_after_input_if_member}
+use Rattle.ring_node_spec.specs.Worlds.{world_after_receipt_if_sent, world_after_delivery, is_node, world_after_event, run}
 use Rattle.ring_world.specs.declared.open_copies.OpenCopies.{OpenCopies}
 use Rattle.ring_world.specs.OpenCopies.{frames_of, copies_of_frame, copies_after, within_reach, all_copies, opened_since, open_copies_from, IsReached}
 use Rattle.ring_world.specs.WorldView.{WorldView, world_of, IsRunOfEvents}
@@ -26,31 +26,31 @@ use Rattle.ring_world.proofs.Playing.{plays_longer, world_later}
 
 module _ {O A : Type 0} (object : Sequential O) where
   module _ (w : World A) where
-    refused : (o : Option Fault) (i : ℕ) (c : Call A) → IsListPrefix w.frames (issued_or o w i c).frames
+    refused : (o : Option Fault) (i : ℕ) (c : Call A) → IsListPrefix w.frames (world_after_submit o w i c).frames
     refused (Some fault) i c = prefix_self w.frames
     refused None i c = prefix_self w.frames
 
-    issued : (b : Bool) (i : ℕ) (c : Call A) → IsListPrefix w.frames (issued_if b w i c).frames
+    issued : (b : Bool) (i : ℕ) (c : Call A) → IsListPrefix w.frames (world_after_submit_if_member b w i c).frames
     issued false i c = prefix_self w.frames
     issued true i c = refused (submit_fault (w.nodes i)) i c
 
-    steps : (b : Bool) (i : ℕ) (input : Input A) → IsListPrefix w.frames (stepped_if object b w i input).frames
+    steps : (b : Bool) (i : ℕ) (input : Input A) → IsListPrefix w.frames (world_after_input_if_member object b w i input).frames
     steps false i input = prefix_self w.frames
     steps true i input = (carried_frames i (node_step object (w.nodes i) input).sends, refl)
 
-    comes_if : (b : Bool) (i : ℕ) (f : Transmission A) → IsListPrefix w.frames (handed_if object b w i f.frame).frames
+    comes_if : (b : Bool) (i : ℕ) (f : Transmission A) → IsListPrefix w.frames (world_after_receipt_if_sent object b w i f.frame).frames
     comes_if false i f = prefix_self w.frames
     comes_if true i f = steps (is_node w i) i (FrameInput f.frame)
 
-    comes : (o : Option (Transmission A)) (i : ℕ) → IsListPrefix w.frames (handed object w i o).frames
+    comes : (o : Option (Transmission A)) (i : ℕ) → IsListPrefix w.frames (world_after_delivery object w i o).frames
     comes None i = prefix_self w.frames
     comes (Some f) i = comes_if (has f.to i) i f
 
-    stops : (b : Bool) (i : ℕ) → IsListPrefix w.frames (stopped_if b w i).frames
+    stops : (b : Bool) (i : ℕ) → IsListPrefix w.frames (world_after_stop_if_member b w i).frames
     stops false i = prefix_self w.frames
     stops true i = prefix_self w.frames
 
-    event_frames : (e : Event A) → IsListPrefix w.frames (happens object w e).frames
+    event_frames : (e : Event A) → IsListPrefix w.frames (world_after_event object w e).frames
     event_frames (Issue i c) = issued (is_node w i) i c
     event_frames (Deliver i k) = comes (frame_at w.frames k) i
     event_frames (Noise i bytes) = prefix_self w.frames
@@ -59,8 +59,8 @@ module _ {O A : Type 0} (object : Sequential O) where
 
   run_frames : (w : World A) (es : List (Event A)) → IsListPrefix w.frames (run object w es).frames
   run_frames w [] = prefix_self w.frames
-  run_frames w (e ∷ es) = prefix_trans w.frames (happens object w e).frames (run object (happens object w e) es).frames
-      (event_frames w e) (run_frames (happens object w e) es)
+  run_frames w (e ∷ es) = prefix_trans w.frames (world_after_event object w e).frames (run object (world_after_event object w e) es).frames
+      (event_frames w e) (run_frames (world_after_event object w e) es)
 
   -- frames stay as a run continues
   pub plays_frames : (es : List (Event A)) (p q : WorldView A) → IsRunOfEvents object es p q → IsListPrefix (frames_of object p) (frames_of object q)
@@ -94,16 +94,16 @@ pub open_later : {A : Type 0} (p : OpenCopies) (xs ys : List (Transmission A)) �
 open_later p xs ys f reached =
     let whole = reach_front xs ys f in
     let reach = within_reach xs in
-    let place : p.frame + length (drop p.frame reach) ≡ length reach = omega (arith, length-drop p.frame reach, reached) in
-    let left : drop p.frame (within_reach ys) ≡ drop p.frame reach ++ whole.0 = ap (λ fs. drop p.frame fs)
-    (sym whole.1) ∙ drop-append-le p.frame reach whole.0 reached in
-    let behind : copies_after p.frame (drop p.frame (within_reach ys)) ≡ copies_after p.frame (drop p.frame reach) ++ opened_since xs ys =
-    ap (λ fs. copies_after p.frame fs) left
-    ∙ (open_copies-append p.frame (drop p.frame reach) whole.0
-    ∙ (ap (λ k. copies_after p.frame (drop p.frame reach) ++ copies_after k whole.0) place
-    ∙ ap (λ ps. copies_after p.frame (drop p.frame reach) ++ ps) (sym (opened_by xs ys whole.0 (sym whole.1))))) in
-    ap (λ ps. copies_of_frame p.frame p.sender p.left ++ ps) behind
-    ∙ sym (append_assoc (copies_of_frame p.frame p.sender p.left) (copies_after p.frame (drop p.frame reach))
+    let place : p.reached_frame + length (drop p.reached_frame reach) ≡ length reach = omega (arith, length-drop p.reached_frame reach, reached) in
+    let left : drop p.reached_frame (within_reach ys) ≡ drop p.reached_frame reach ++ whole.0 = ap (λ fs. drop p.reached_frame fs)
+    (sym whole.1) ∙ drop-append-le p.reached_frame reach whole.0 reached in
+    let behind : copies_after p.reached_frame (drop p.reached_frame (within_reach ys)) ≡ copies_after p.reached_frame (drop p.reached_frame reach) ++ opened_since xs ys =
+    ap (λ fs. copies_after p.reached_frame fs) left
+    ∙ (open_copies-append p.reached_frame (drop p.reached_frame reach) whole.0
+    ∙ (ap (λ k. copies_after p.reached_frame (drop p.reached_frame reach) ++ copies_after k whole.0) place
+    ∙ ap (λ ps. copies_after p.reached_frame (drop p.reached_frame reach) ++ ps) (sym (opened_by xs ys whole.0 (sym whole.1))))) in
+    ap (λ ps. copies_of_frame p.reached_frame p.sender p.open_receivers ++ ps) behind
+    ∙ sym (append_assoc (copies_of_frame p.reached_frame p.sender p.open_receivers) (copies_after p.reached_frame (drop p.reached_frame reach))
     (opened_since xs ys))
 
 pub reached_later : {A : Type 0} (p : OpenCopies) (xs ys : List (Transmission A)) → IsListPrefix xs ys → IsReached p xs → IsReached p ys

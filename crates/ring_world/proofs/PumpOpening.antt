@@ -34,55 +34,55 @@ take_less (suc n) (x ∷ xs) = let rest = take_less n xs in omega arith
 
 -- ---- frames
 
-none_of : (number sender left : ℕ) → left ≡ nobody → copies_of_frame number sender left ≡ []
-none_of number sender left none = ap
+none_of : (number sender open_receivers : ℕ) → open_receivers ≡ nobody → copies_of_frame number sender open_receivers ≡ []
+none_of number sender open_receivers none = ap
     (λ s. map (λ (receiver : ℕ). record { frame = number; sender = sender; receiver = receiver }) (elements s)) none
     ∙ ap (λ xs. map (λ (receiver : ℕ). record { frame = number; sender = sender; receiver = receiver }) xs)
     elements-nobody
 
 -- before the first frame is reached all copies are open
-pub all_open : {A : Type 0} (p : OpenCopies) (frames : List (Transmission A)) → p ≡ record { frame = 0; sender = 1; left = nobody }
+pub all_open : {A : Type 0} (p : OpenCopies) (frames : List (Transmission A)) → p ≡ record { reached_frame = 0; sender = 1; open_receivers = nobody }
     → open_copies_from p frames ≡ all_copies frames
 all_open {A} p frames first =
     ap (λ (q : OpenCopies). open_copies_from q frames) first
     ∙ ap (λ ps. ps ++ copies_after 0 (within_reach frames)) (none_of 0 1 nobody refl)
 
 module _ {A : Type 0} (p : OpenCopies) (frames : List (Transmission A)) where
-  only_behind : p.left ≡ nobody → open_copies_from p frames ≡ copies_after p.frame (drop p.frame (within_reach frames))
-  only_behind none = ap (λ ps. ps ++ copies_after p.frame (drop p.frame (within_reach frames))) (none_of p.frame p.sender p.left none)
+  only_behind : p.open_receivers ≡ nobody → open_copies_from p frames ≡ copies_after p.reached_frame (drop p.reached_frame (within_reach frames))
+  only_behind none = ap (λ ps. ps ++ copies_after p.reached_frame (drop p.reached_frame (within_reach frames))) (none_of p.reached_frame p.sender p.open_receivers none)
 
-  nothing_behind : p.left ≡ nobody → length (within_reach frames) ≤ p.frame → open_copies_from p frames ≡ []
-  nothing_behind none all = only_behind none ∙ ap (λ fs. copies_after p.frame fs) (drop_all p.frame (within_reach frames) all)
+  nothing_behind : p.open_receivers ≡ nobody → length (within_reach frames) ≤ p.reached_frame → open_copies_from p frames ≡ []
+  nothing_behind none all = only_behind none ∙ ap (λ fs. copies_after p.reached_frame fs) (drop_all p.reached_frame (within_reach frames) all)
 
   -- no frame has a greater number
-  pub none_past : p.left ≡ nobody → 2 ^ 64 - 1 ≤ p.frame → open_copies_from p frames ≡ []
+  pub none_past : p.open_receivers ≡ nobody → 2 ^ 64 - 1 ≤ p.reached_frame → open_copies_from p frames ≡ []
   none_past none last = nothing_behind none (omega (arith, last, take_le (2 ^ 64 - 1) frames))
 
   -- the next frame was not sent
-  pub no_sent_frames : p.left ≡ nobody → frame_at frames (suc p.frame) ≡ None → open_copies_from p frames ≡ []
-  no_sent_frames none lost = nothing_behind none (omega (arith, take_less (2 ^ 64 - 1) frames, none-length frames p.frame lost))
+  pub no_sent_frames : p.open_receivers ≡ nobody → frame_at frames (suc p.reached_frame) ≡ None → open_copies_from p frames ≡ []
+  no_sent_frames none lost = nothing_behind none (omega (arith, take_less (2 ^ 64 - 1) frames, none-length frames p.reached_frame lost))
 
   -- the next frame was sent
-  pub next_sent : (q : OpenCopies) (f : Transmission A) → p.left ≡ nobody → p.frame < 2 ^ 64 - 1 → frame_at frames (suc p.frame)
-      ≡ Some f → q ≡ record { frame = suc p.frame; sender = f.from; left = f.to }
+  pub next_sent : (q : OpenCopies) (f : Transmission A) → p.open_receivers ≡ nobody → p.reached_frame < 2 ^ 64 - 1 → frame_at frames (suc p.reached_frame)
+      ≡ Some f → q ≡ record { reached_frame = suc p.reached_frame; sender = f.from; open_receivers = f.to }
       → (open_copies_from q frames ≡ open_copies_from p frames) × IsReached q frames
   next_sent q f none small sent is =
-      let there = get-take (2 ^ 64 - 1) frames p.frame f small sent in
-      let inside = slice_get_within (within_reach frames) p.frame f there in (
-        ap (λ (x : OpenCopies). open_copies_from x frames) is ∙ sym (only_behind none ∙ ap (λ fs. copies_after p.frame fs)
-            (drop_get (within_reach frames) p.frame f there)),
-        omega (arith, inside, ap (λ (x : OpenCopies). x.frame) is),
+      let there = get-take (2 ^ 64 - 1) frames p.reached_frame f small sent in
+      let inside = slice_get_within (within_reach frames) p.reached_frame f there in (
+        ap (λ (x : OpenCopies). open_copies_from x frames) is ∙ sym (only_behind none ∙ ap (λ fs. copies_after p.reached_frame fs)
+            (drop_get (within_reach frames) p.reached_frame f there)),
+        omega (arith, inside, ap (λ (x : OpenCopies). x.reached_frame) is),
       )
 
   -- the first open copy is closed
-  pub closes : (q : OpenCopies) (receiver alone : ℕ) → receiver ≡ smallest p.left → IsProc receiver
-      × IsMember p.left receiver → alone ≡ only receiver → q ≡ record p { left = less p.left alone }
-      → open_copies_from p frames ≡ record { frame = p.frame; sender = p.sender; receiver = receiver } ∷ open_copies_from q frames
+  pub closes : (q : OpenCopies) (receiver alone : ℕ) → receiver ≡ smallest p.open_receivers → IsProc receiver
+      × IsMember p.open_receivers receiver → alone ≡ only receiver → q ≡ record p { open_receivers = less p.open_receivers alone }
+      → open_copies_from p frames ≡ record { frame = p.reached_frame; sender = p.sender; receiver = receiver } ∷ open_copies_from q frames
   closes q receiver alone least m one is =
-      let taken = elements-taken p.left receiver alone (less p.left alone) least m one refl in
-      ap (λ xs. map (λ (r : ℕ). record { frame = p.frame; sender = p.sender; receiver = r }) xs
-      ++ copies_after p.frame (drop p.frame (within_reach frames))) taken
-      ∙ ap (λ (x : OpenCopies). record { frame = p.frame; sender = p.sender; receiver = receiver } ∷ open_copies_from x frames) (sym is)
+      let taken = elements-taken p.open_receivers receiver alone (less p.open_receivers alone) least m one refl in
+      ap (λ xs. map (λ (r : ℕ). record { frame = p.reached_frame; sender = p.sender; receiver = r }) xs
+      ++ copies_after p.reached_frame (drop p.reached_frame (within_reach frames))) taken
+      ∙ ap (λ (x : OpenCopies). record { frame = p.reached_frame; sender = p.sender; receiver = receiver } ∷ open_copies_from x frames) (sym is)
 
 -- ---- the result of `frame`
 
@@ -100,24 +100,24 @@ is_sent (Some f) n m frames sent is at e = let same : sent ≡ (f.from, f.to) =
     cc in (f, (ap (frame_at frames) (sym is) ∙ at, ap (λ (p : ℕ × ℕ). p.0) same, ap (λ (p : ℕ × ℕ). p.1) same))
 
 -- the world returns the frame of the next number
-pub went_on : {A : Type 0} (p : OpenCopies) (frames : List (Transmission A)) (number sender receivers : ℕ) → p.left ≡ nobody
-    → number ≡ p.frame + 1 → p.frame + 1 < 18446744073709551616
+pub went_on : {A : Type 0} (p : OpenCopies) (frames : List (Transmission A)) (number sender receivers : ℕ) → p.open_receivers ≡ nobody
+    → number ≡ p.reached_frame + 1 → p.reached_frame + 1 < 18446744073709551616
     → ◌≡◌ {A = Option (ℕ × ℕ)} (Some (sender, receivers)) (option_map {U = ℕ × ℕ} (λ (f : Transmission A). (f.from, f.to)) (frame_at frames number))
-    → let q : OpenCopies = record { frame = number; sender = sender; left = receivers } in (open_copies_from q frames ≡ open_copies_from p frames) × IsReached q frames
+    → let q : OpenCopies = record { reached_frame = number; sender = sender; open_receivers = receivers } in (open_copies_from q frames ≡ open_copies_from p frames) × IsReached q frames
 went_on p frames number sender receivers none is small told =
-    let next : number ≡ suc p.frame = is ∙ add-one p.frame in
-    let s = is_sent (frame_at frames number) number p.frame frames (sender, receivers) next refl told in
-    next_sent p frames (record { frame = number; sender = sender; left = receivers }) s.0 none (omega (arith, small)) s.1.0
-    (ap (λ (n : ℕ). record { frame = n; sender = sender; left = receivers }) next
-    ∙ (ap (λ (n : ℕ). record { frame = suc p.frame; sender = n; left = receivers }) s.1.1
-    ∙ ap (λ (n : ℕ). record { frame = suc p.frame; sender = s.0.from; left = n }) s.1.2))
+    let next : number ≡ suc p.reached_frame = is ∙ add-one p.reached_frame in
+    let s = is_sent (frame_at frames number) number p.reached_frame frames (sender, receivers) next refl told in
+    next_sent p frames (record { reached_frame = number; sender = sender; open_receivers = receivers }) s.0 none (omega (arith, small)) s.1.0
+    (ap (λ (n : ℕ). record { reached_frame = n; sender = sender; open_receivers = receivers }) next
+    ∙ (ap (λ (n : ℕ). record { reached_frame = suc p.reached_frame; sender = n; open_receivers = receivers }) s.1.1
+    ∙ ap (λ (n : ℕ). record { reached_frame = suc p.reached_frame; sender = s.0.from; open_receivers = n }) s.1.2))
 
 -- the world returns that there is none
-pub ended : {A : Type 0} (p : OpenCopies) (frames : List (Transmission A)) (number : ℕ) → p.left ≡ nobody → number ≡ p.frame + 1
+pub ended : {A : Type 0} (p : OpenCopies) (frames : List (Transmission A)) (number : ℕ) → p.open_receivers ≡ nobody → number ≡ p.reached_frame + 1
     → ◌≡◌ {A = Option (ℕ × ℕ)} None (option_map {U = ℕ × ℕ} (λ (f : Transmission A). (f.from, f.to)) (frame_at frames number)) → open_copies_from p frames ≡ []
 ended p frames number none is told =
-    let next : number ≡ suc p.frame = is ∙ add-one p.frame in
-    no_sent_frames p frames none (is_not_sent (frame_at frames number) number p.frame frames next refl told)
+    let next : number ≡ suc p.reached_frame = is ∙ add-one p.reached_frame in
+    no_sent_frames p frames none (is_not_sent (frame_at frames number) number p.reached_frame frames next refl told)
 
 -- the next number doesn't fit in a u64
 pub no_next : (o : Option ℕ) (n : ℕ) → SomeIff o (n + 1 < 18446744073709551616) (n + 1) → o ≡ None → 2 ^ 64 - 1 ≤ n
@@ -125,8 +125,8 @@ no_next None n h e = omega (arith, h)
 no_next (Some m) n h e = absurd cc
 
 -- before the first frame nothing is reached
-pub none_reached : {A : Type 0} (p : OpenCopies) (frames : List (Transmission A)) → p ≡ record { frame = 0; sender = 1; left = nobody } → IsReached p frames
-none_reached p frames first = omega (arith, ap (λ (q : OpenCopies). q.frame) first)
+pub none_reached : {A : Type 0} (p : OpenCopies) (frames : List (Transmission A)) → p ≡ record { reached_frame = 0; sender = 1; open_receivers = nobody } → IsReached p frames
+none_reached p frames first = omega (arith, ap (λ (q : OpenCopies). q.reached_frame) first)
 
 -- the copy taken is the first
 pub takes_first : (old : List OpenCopy) (taken : Option OpenCopy) (new : List OpenCopy) → IsFirstCopyTaken old taken new → taken ≡ slice_get old 0

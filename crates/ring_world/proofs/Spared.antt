@@ -9,8 +9,8 @@ use Rattle.ring_payload.specs.declared.call.Call.{Call}
 use Rattle.ring_order_proof.proofs.ReportedReplies.{is_place-true}
 use Rattle.ring_session.specs.declared.answer.Answer.{Answer}
 use Rattle.ring_session.specs.Table.{Table, table_answer, table_next}
-use Rattle.ring_session.specs.declared.answered.TicketAnswer.{TicketAnswer}
-use Rattle.ring_session.specs.Tickets.{TicketCall, place_of, is_place, answers_at, answers_after}
+use Rattle.ring_session.specs.declared.ticket_answer.TicketAnswer.{TicketAnswer}
+use Rattle.ring_session.specs.Tickets.{TicketCall, answering_place, is_place, answers_at, answers_after}
 use Rattle.ring_session.proofs.TicketPlaces.{first_place-below, last_place, first_place-push}
 use Rattle.ring_world.specs.SpareCalls.{HasCopy, HaveCopies, without, copies_after_answers, Holds}
 use Rattle.ring_base.proofs.ListPlaces.{get-push, get-last, get-left, get-set_other, push-length}
@@ -38,14 +38,14 @@ module _ {A : Type 0} (done : List (Call A)) (d : Call A) where
   split_none None last e = refl
   split_none (Some p) last e = absurd (let q : ⊥ = cc e in q)
 
-  was_waiting : (t : TicketCall A) → place_of (done ++ d ∷ []) t ≡ Some (length done) → place_of done t ≡ None
+  was_waiting : (t : TicketCall A) → answering_place (done ++ d ∷ []) t ≡ Some (length done) → answering_place done t ≡ None
   was_waiting t e =
-      split_new (place_of done t) (last_place t.call t.since (0 + length done) d)
+      split_new (answering_place done t) (last_place t.call t.since (0 + length done) d)
       (λ p h. (let l = first_place-below t.call t.since 0 done p h in omega (arith, l)))
       (sym (first_place-push t.call t.since 0 done d) ∙ e)
 
-  waits_on : (t : TicketCall A) → place_of (done ++ d ∷ []) t ≡ None → place_of done t ≡ None
-  waits_on t e = split_none (place_of done t) (last_place t.call t.since (0 + length done) d)
+  waits_on : (t : TicketCall A) → answering_place (done ++ d ∷ []) t ≡ None → answering_place done t ≡ None
+  waits_on t e = split_none (answering_place done t) (last_place t.call t.since (0 + length done) d)
       (sym (first_place-push t.call t.since 0 done d) ∙ e)
 
 not_place : (place : ℕ) (o : Option ℕ) → is_place place o ≡ true → o ≡ None → ⊥
@@ -55,16 +55,16 @@ module _ {A : Type 0} where
   -- the answers of one place, to the tickets from this one on
   record IsGroup (done : List (Call A)) (calls : List (Option (Call A))) (ticket : ℕ) (ts : List (TicketCall A)) (answers : List (TicketAnswer A)) : Type 0 where
     pub left : HaveCopies calls answers
-    pub each : (k : ℕ) (t : TicketCall A) → slice_get ts k ≡ Some t → place_of done t ≡ None → HasCopy (copies_after_answers calls answers) (ticket + k) t.call
+    pub each : (k : ℕ) (t : TicketCall A) → slice_get ts k ≡ Some t → answering_place done t ≡ None → HasCopy (copies_after_answers calls answers) (ticket + k) t.call
     pub below : (j : ℕ) → j < ticket → slice_get (copies_after_answers calls answers) j ≡ slice_get calls j
     pub many : length (copies_after_answers calls answers) ≡ length calls
 
   abbrev Wait : List (Call A) → List (Option (Call A)) → ℕ → List (TicketCall A) → Type 0
-  Wait done calls ticket ts = (k : ℕ) (t : TicketCall A) → slice_get ts k ≡ Some t → place_of done t ≡ None → HasCopy calls (ticket + k) t.call
+  Wait done calls ticket ts = (k : ℕ) (t : TicketCall A) → slice_get ts k ≡ Some t → answering_place done t ≡ None → HasCopy calls (ticket + k) t.call
 
   -- this ticket isn't answered
   skipped : (done : List (Call A)) (calls : List (Option (Call A))) (ticket : ℕ) (t : TicketCall A) (ts : List (TicketCall A)) (rest : List (TicketAnswer A)) →
-      (place_of done t ≡ None → HasCopy calls ticket t.call) → IsGroup done calls (ticket + 1) ts rest → IsGroup done calls ticket (t ∷ ts) rest
+      (answering_place done t ≡ None → HasCopy calls ticket t.call) → IsGroup done calls (ticket + 1) ts rest → IsGroup done calls ticket (t ∷ ts) rest
   skipped done calls ticket t ts rest here g = record {
     left = g.left;
     each = each_of;
@@ -76,7 +76,7 @@ module _ {A : Type 0} where
       each_of zero u e w =
           let same : t ≡ u = cc e in
           let at : ticket + zero ≡ ticket = omega arith in
-          let was = subst (λ (v : TicketCall A). HasCopy calls ticket v.call) same (here (ap (place_of done) same ∙ w)) in
+          let was = subst (λ (v : TicketCall A). HasCopy calls ticket v.call) same (here (ap (answering_place done) same ∙ w)) in
           subst (λ n. HasCopy (copies_after_answers calls rest) n u.call) (sym at) (g.below ticket (omega arith) ∙ was)
       each_of (suc k) u e w =
           let at : (ticket + 1) + k ≡ ticket + suc k = omega arith in
@@ -85,7 +85,7 @@ module _ {A : Type 0} where
   -- this ticket is answered
   taken : (done : List (Call A)) (calls : List (Option (Call A))) (ticket : ℕ) (t : TicketCall A)
       (ts : List (TicketCall A)) (rest : List (TicketAnswer A)) (a : Answer) → HasCopy calls ticket t.call →
-      (place_of done t ≡ None → ⊥) → IsGroup done (without calls ticket) (ticket + 1) ts rest →
+      (answering_place done t ≡ None → ⊥) → IsGroup done (without calls ticket) (ticket + 1) ts rest →
       IsGroup done calls ticket (t ∷ ts) (record { ticket = ticket; call = t.call; answer = a } ∷ rest)
   taken done calls ticket t ts rest a here not g = record {
     left = (here, g.left);
@@ -95,7 +95,7 @@ module _ {A : Type 0} where
   }
     where
       each_of : Wait done (copies_after_answers (without calls ticket) rest) ticket (t ∷ ts)
-      each_of zero u e w = (let same : t ≡ u = cc e in absurd (not (ap (place_of done) same ∙ w)))
+      each_of zero u e w = (let same : t ≡ u = cc e in absurd (not (ap (answering_place done) same ∙ w)))
       each_of (suc k) u e w =
           let at : (ticket + 1) + k ≡ ticket + suc k = omega arith in
           subst (λ n. HasCopy (copies_after_answers (without calls ticket) rest) n u.call) at (g.each k u e w)
@@ -124,15 +124,15 @@ module _ {A : Type 0} where
     now = done ++ d ∷ []
 
     one : (b : Bool) (calls : List (Option (Call A))) (ticket : ℕ) (t : TicketCall A)
-        (ts : List (TicketCall A)) → is_place (length done) (place_of now t) ≡ b →
+        (ts : List (TicketCall A)) → is_place (length done) (answering_place now t) ≡ b →
         Wait done calls ticket (t ∷ ts) → ((cs : List (Option (Call A))) → Wait done cs (ticket + 1) ts
         → IsGroup now cs (ticket + 1) ts (answers_at answer now (length done) (ticket + 1) ts)) →
         IsGroup now calls ticket (t ∷ ts) (head b ticket t.call answer ++ answers_at answer now (length done) (ticket + 1) ts)
     one false calls ticket t ts e wait rest = passed answer done d calls ticket t ts wait rest
     one true calls ticket t ts e wait rest =
         let at : ticket + 0 ≡ ticket = omega arith in
-        let here = subst (λ n. HasCopy calls n t.call) at (wait zero t refl (was_waiting done d t (is_place-true (length done) (place_of now t) e))) in
-        taken now calls ticket t ts (answers_at answer now (length done) (ticket + 1) ts) answer here (not_place (length done) (place_of now t) e)
+        let here = subst (λ n. HasCopy calls n t.call) at (wait zero t refl (was_waiting done d t (is_place-true (length done) (answering_place now t) e))) in
+        taken now calls ticket t ts (answers_at answer now (length done) (ticket + 1) ts) answer here (not_place (length done) (answering_place now t) e)
         (rest (without calls ticket) (λ k u at_u w.
         let n : ticket + suc k ≡ (ticket + 1) + k = omega arith in
         get-set_other calls ticket ((ticket + 1) + k) None (λ q. (let f : ⊥ = omega (arith, q) in f))
@@ -142,7 +142,7 @@ module _ {A : Type 0} where
         → IsGroup now calls ticket ts (answers_at answer now (length done) ticket ts)
     group calls ticket [] wait = record { left = tt; each = λ k t e w. absurd (let q : ⊥ = cc e in q); below = λ j l. refl; many = refl }
     group calls ticket (t ∷ ts) wait =
-        one (is_place (length done) (place_of now t)) calls ticket t ts refl wait (λ cs w. group cs (ticket + 1) ts w)
+        one (is_place (length done) (answering_place now t)) calls ticket t ts refl wait (λ cs w. group cs (ticket + 1) ts w)
 
 -- Call by call
 

@@ -13,11 +13,11 @@ use Rattle.ring_log.specs.Logs.{committed_calls}
 use Rattle.ring_log.proofs.CommittedOf.{epochs_with_sends-nothing}
 use Rattle.ring_payload.specs.declared.call.Call.{Call}
 use Rattle.ring_session.specs.Tickets.{answers_after}
-use Rattle.ring_session.specs.declared.answered.TicketAnswer.{TicketAnswer}
+use Rattle.ring_session.specs.declared.ticket_answer.TicketAnswer.{TicketAnswer}
 use Rattle.ring_node_spec.specs.declared.input.Input.{Input as NodeInput}
 use Rattle.ring_node_spec.specs.declared.input.Input.TheVariants.{Frame as NodeFrame, Noise as NodeNoise, Timeout as NodeTime, Stop as NodeStop}
 use Rattle.ring_node_spec.specs.Nodes.{Node, node_known_log, is_stopped, is_closed, is_restored}
-use Rattle.ring_node_spec.specs.Stepping.{NodeStepResult, newly_committed, table_since, with_dropped, drops, ended, did, node_step, after_core, settled, node_after_outputs}
+use Rattle.ring_node_spec.specs.Stepping.{NodeStepResult, newly_committed, table_since, with_dropped, drops, step_after_trim, did, node_step, after_core, settled, node_after_outputs}
 use Rattle.ring_node.proofs.StoppedCore.{GaveNothing, stopped_step}
 use Rattle.ring_node.proofs.NewlyCommitted.{newly_committed-nothing}
 use Rattle.ring_node_spec.proofs.NodeChanges.{stopped_same}
@@ -56,7 +56,7 @@ module _ {O A : Type 0} (object : Sequential O) where
       let dropped : NodeStepResult A = record s { node = with_dropped k.committed s.node; dropped = committed_calls (retained_log k) } in
       let shut : drops object (is_closed n.group (epochs_with_sends [] n.epochs)) k ≡ false =
       ap (λ epochs. drops object (is_closed n.group epochs) k) (epochs_with_sends-nothing n.epochs) ∙ h.none in
-      let same : ended object (is_closed n.group (epochs_with_sends [] n.epochs)) k s ≡ s =
+      let same : step_after_trim object (is_closed n.group (epochs_with_sends [] n.epochs)) k s ≡ s =
       cond-false (drops object (is_closed n.group (epochs_with_sends [] n.epochs)) k) dropped s shut in
       subst (λ t. IsSilent t n) (sym same) (silent-did n)
 

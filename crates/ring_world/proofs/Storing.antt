@@ -18,7 +18,7 @@ use Rattle.ring_wire.specs.Frames.{encoding_of, FrameFits}
 use Rattle.ring_wire.specs.Prefixes.{IsReadFault, IsEncodedPrefix, HasNoEncodedPrefix}
 use Rattle.ring_wire.specs.IsFrameEncoding.{IsFrameEncoding}
 use Rattle.ring_core_spec.specs.State.{Transmission, frame_at, frame_for}
-use Rattle.ring_world.specs.declared.frames.FramePosition.{FramePosition}
+use Rattle.ring_world.specs.declared.frame_store.FramePosition.{FramePosition}
 use Rattle.ring_world.specs.StoredFramesView.{text_of, position_of, positions_from, AreFrames, position_at, position_for}
 
 -- One more
@@ -36,18 +36,18 @@ positions_from-push at (g ∷ fs) f =
     omega (arith, length-append (encoding_of g.frame) (text_of fs)) in
     ap (λ ms. position_of at g ∷ ms) (positions_from-push (at + n) fs f ∙ ap (λ k. positions_from (at + n) fs ++ position_of k f ∷ []) e)
 
-mark_is : (m : FramePosition) (s e f t : ℕ) → m.start ≡ s → m.end ≡ e → m.from ≡ f → m.to ≡ t → m ≡ record { start = s; end = e; from = f; to = t }
+mark_is : (m : FramePosition) (s e f t : ℕ) → m.start ≡ s → m.end ≡ e → m.sender ≡ f → m.to ≡ t → m ≡ record { start = s; end = e; sender = f; to = t }
 mark_is m s e f t a b c d =
-    let one : ℕ → FramePosition = λ x. record { start = x; end = m.end; from = m.from; to = m.to } in
-    let two : ℕ → FramePosition = λ x. record { start = s; end = x; from = m.from; to = m.to } in
-    let three : ℕ → FramePosition = λ x. record { start = s; end = e; from = x; to = m.to } in
-    let four : ℕ → FramePosition = λ x. record { start = s; end = e; from = f; to = x } in
+    let one : ℕ → FramePosition = λ x. record { start = x; end = m.end; sender = m.sender; to = m.to } in
+    let two : ℕ → FramePosition = λ x. record { start = s; end = x; sender = m.sender; to = m.to } in
+    let three : ℕ → FramePosition = λ x. record { start = s; end = e; sender = x; to = m.to } in
+    let four : ℕ → FramePosition = λ x. record { start = s; end = e; sender = f; to = x } in
     ap one a ∙ ap two b ∙ ap three c ∙ ap four d
 
 pub kept : {A : Type 0} (frames frames' : List (Transmission A)) (bytes bytes' : List ℕ) (positions positions' : List FramePosition)
     (f : Transmission A) (m : FramePosition) → AreFrames frames bytes positions →
     FrameFits f.frame → frames' ≡ frames ++ f ∷ [] → bytes' ≡ bytes ++ encoding_of f.frame → positions' ≡ positions ++ m ∷ []
-    → m.start ≡ length bytes → m.end ≡ length bytes' → m.from ≡ f.from → m.to ≡ f.to →
+    → m.start ≡ length bytes → m.end ≡ length bytes' → m.sender ≡ f.from → m.to ≡ f.to →
     AreFrames frames' bytes' positions'
 kept {A} frames frames' bytes bytes' positions positions' f m h fits a b c start end from to =
     let same : length bytes ≡ 0 + length (text_of frames) = ap length h.text
@@ -69,7 +69,7 @@ kept {A} frames frames' bytes bytes' positions positions' f m h fits a b c start
 pub record IsMarkOf {A : Type 0} (bytes : List ℕ) (m : FramePosition) (o : Option (Transmission A)) : Type 0 where
   pub sent : Transmission A
   pub there : o ≡ Some sent
-  pub from : m.from ≡ sent.from
+  pub from : m.sender ≡ sent.from
   pub to : m.to ≡ sent.to
   pub order : m.start ≤ m.end
   pub within : m.end ≤ length bytes
@@ -164,7 +164,7 @@ module _ {A : Type 0} where
       ap (frame_for node) is.there ∙ cond-false (has is.sent.to node) (Some is.sent.frame) None to
 
   pub ends_are : (bytes : List ℕ) (m : FramePosition) (o : Option (Transmission A)) → IsMarkOf bytes m o → ◌≡◌ {A = Option (ℕ × ℕ)}
-      (Some (m.from, m.to)) (option_map (λ (f : Transmission A). (f.from, f.to)) o)
+      (Some (m.sender, m.to)) (option_map (λ (f : Transmission A). (f.from, f.to)) o)
   ends_are bytes m o h =
       let first : ℕ → Option (ℕ × ℕ) = λ n. Some (n, m.to) in
       let second : ℕ → Option (ℕ × ℕ) = λ n. Some (h.sent.from, n) in

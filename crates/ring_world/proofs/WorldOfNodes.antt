@@ -13,7 +13,7 @@ use Rattle.ring_object.specs.Operations.{Sequential}
 use Rattle.ring_core_spec.specs.State.{OutgoingFrame, Transmission}
 use Rattle.ring_node_spec.specs.declared.input.Input.{Input}
 use Rattle.ring_node_spec.specs.Nodes.{Node, node_known_log, node_stopped, is_stopped}
-use Rattle.ring_node_spec.specs.Stepping.{TicketAnswer, node_step, submit_fault, submitted}
+use Rattle.ring_node_spec.specs.Stepping.{TicketAnswer, node_step, submit_fault, node_after_submit}
 use Rattle.ring_session.specs.Tickets.{TicketCall}
 use Rattle.ring_base.specs.declared.fault.Fault.{Fault}
 use Rattle.ring_base.specs.declared.fault.Fault.TheVariants.{Memory, Stopped as StoppedFault}
@@ -24,19 +24,19 @@ use Rattle.ring_node_spec.specs.declared.event.Event.{Event}
 use Rattle.ring_node_spec.specs.declared.event.Event.TheVariants.{Issue, Stop}
 use Rattle.ring_node_spec.specs.declared.item.Item.{Item}
 use Rattle.ring_node_spec.specs.declared.item.Item.TheVariants.{Issue as IssuedItem}
-use Rattle.ring_node_spec.specs.declared.told.Told.{Told}
-use Rattle.ring_node_spec.specs.declared.told.Told.TheVariants.{Refused as ToldRefused}
-use Rattle.ring_node_spec.specs.Worlds.{World, world_opening, run, happens, put, after_step, stepped, stepped_if}
-use Rattle.ring_node_spec.specs.Worlds.{stopped_if, issued_or, issued_if, carried_frames, items_of, told_by, calls_past}
+use Rattle.ring_node_spec.specs.declared.client_report.Told.{Told}
+use Rattle.ring_node_spec.specs.declared.client_report.Told.TheVariants.{Refused as ToldRefused}
+use Rattle.ring_node_spec.specs.Worlds.{World, world_opening, run, world_after_event, with_node, after_step, world_after_node_step, world_after_input_if_member}
+use Rattle.ring_node_spec.specs.Worlds.{world_after_stop_if_member, world_after_submit, world_after_submit_if_member, carried_frames, reply_items_of, reports_of_answers, calls_past}
 use Rattle.ring_node_spec.proofs.NodeChanges.{no_calls_past, stopped_same}
-use Rattle.ring_order_proof.specs.Linear.{EventKeeps}
+use Rattle.ring_order_proof.specs.Linear.{IsEventCallWithinLimits}
 use Rattle.ring_order_proof.proofs.ConsistentRuns.{run-more}
 use Rattle.ring_order_proof.proofs.TrimmedRuns.{all-undropping}
 use Rattle.ring_world.specs.WorldView.{WorldView, told_of_events, world_of, told_by_event, stepping_node_in, is_running_in, IsEventOutcome}
 use Rattle.ring_node.specs.declared.outs.Outs.{Outs}
 use Rattle.ring_world.specs.Steps.{HasStepped}
 use Rattle.ring_world.specs.SpareCalls.{SpareCalls, HaveCopies, Holds, copies_after_answers}
-use Rattle.ring_world.specs.Keeping.{KeepsCopies, IsWorldKept, IsWorld}
+use Rattle.ring_world.specs.WorldInvariant.{KeepsCopies, IsWorldKept, IsWorld}
 use Rattle.ring_world.proofs.Spared.{copies-more}
 use Rattle.ring_world.proofs.EventLimits.{step_keeps}
 use Rattle.ring_world.proofs.Events.{tells_answers, tells_refusal, tells_memory}
@@ -45,35 +45,35 @@ use Rattle.ring_world.proofs.AnsweredCopies.{step-goes}
 use Rattle.ring_world.proofs.NodePlaces.{Stands, known, node_is, copies_are, copies_set, copies_same, put_kept, same_nodes}
 
 -- the reports of the event
-told_more : {O A : Type 0} (object : Sequential O) (w v : World A) (e : Event A) (more : List (Told A)) → happens object w e ≡ v
+told_more : {O A : Type 0} (object : Sequential O) (w v : World A) (e : Event A) (more : List (Told A)) → world_after_event object w e ≡ v
     → v.told ≡ w.told ++ more → told_by_event object w e ≡ more
 told_more {A = A} object w v e more is t = ap (drop (length w.told)) (ap (λ (x : World A). x.told) is ∙ t) ∙ drop-append_seam w.told more
 
 idle_is : {O A : Type 0} (object : Sequential O) {p old : WorldView A} (e : Event A) → p ≡ old
-    → happens object (world_of object old) e ≡ world_of object old → happens object (world_of object p) e ≡ world_of object p
-idle_is {A = A} object e was same = subst (λ (r : WorldView A). happens object (world_of object r) e ≡ world_of object r) (sym was) same
+    → world_after_event object (world_of object old) e ≡ world_of object old → world_after_event object (world_of object p) e ≡ world_of object p
+idle_is {A = A} object e was same = subst (λ (r : WorldView A). world_after_event object (world_of object r) e ≡ world_of object r) (sym was) same
 
 module _ {O A : Type 0} {object : Sequential O} where
   -- one more event
   tells : {group : Group} {events es : List (Event A)} {nodes nodes' : List (Node A)} {spares spares' : List (SpareCalls A)}
       {frames frames' : List (Transmission A)} {history history' : List (Item A)} {told told' : List (Told A)} {longest longest' : List (Call A)}
-      {v : World A} (e d : Event A) → IsWorld object group events nodes spares frames history told longest → d ≡ e → EventKeeps e →
-      happens object (run object (world_opening group) events) e ≡ v → v.group ≡ (run object (world_opening group) events).group →
+      {v : World A} (e d : Event A) → IsWorld object group events nodes spares frames history told longest → d ≡ e → IsEventCallWithinLimits e →
+      world_after_event object (run object (world_opening group) events) e ≡ v → v.group ≡ (run object (world_opening group) events).group →
       IsWorldKept v nodes' spares' frames' history' told' longest' → es ≡ events ++ d ∷ [] →
       IsWorld object group es nodes' spares' frames' history' told' longest'
   tells {group} {events} {nodes'} {spares'} {frames'} {history'} {told'} {longest'} {v} e d h copy fits is same kept es_is =
       let opening = world_opening group in
       let next : run object opening (events ++ d ∷ []) ≡ v =
-      run-more object opening events d ∙ ap (happens object (run object opening events)) copy ∙ is in
+      run-more object opening events d ∙ ap (world_after_event object (run object opening events)) copy ∙ is in
       rw es_is record {
         kept = subst (λ (x : World A). IsWorldKept x nodes' spares' frames' history' told' longest') (sym next) kept;
         same = ap (λ (x : World A). x.group) next ∙ same ∙ h.same;
-        fit = each-push EventKeeps events d h.fit (subst EventKeeps (sym copy) fits);
+        fit = each-push IsEventCallWithinLimits events d h.fit (subst IsEventCallWithinLimits (sym copy) fits);
         few = h.few;
       }
 
   is_done : {p old : WorldView A} {es : List (Event A)} {ts : List (Told A)} {done : ℕ} {v : World A} (e d : Event A) (more : List (Told A)) → p ≡ old
-      → d ≡ e → happens object (world_of object p) e ≡ v → v.told ≡ (world_of object p).told ++ more →
+      → d ≡ e → world_after_event object (world_of object p) e ≡ v → v.told ≡ (world_of object p).told ++ more →
       es ≡ p.events ++ d ∷ [] → ts ≡ p.told ++ more → IsEventOutcome object e old (record { group = p.group; events = es; told = ts; done = done })
   is_done {p} {es = es} {ts = ts} {done = done} {v = v} e d more was copy is t es_is ts_is =
       let q : WorldView A = record { group = p.group; events = es; told = ts; done = done } in
@@ -86,9 +86,9 @@ module _ {O A : Type 0} {object : Sequential O} where
   -- An event that changes nothing
 
   module _ {p old : WorldView A} {es : List (Event A)} (e d : Event A) (was : p ≡ old)
-      (same : happens object (world_of object old) e ≡ world_of object old) (copy : d ≡ e) (es_is : es ≡ p.events ++ d ∷ []) where
+      (same : world_after_event object (world_of object old) e ≡ world_of object old) (copy : d ≡ e) (es_is : es ≡ p.events ++ d ∷ []) where
     pub idle_world : {nodes : List (Node A)} {spares : List (SpareCalls A)} {frames : List (Transmission A)} {history : List (Item A)} {longest : List (Call A)}
-        → EventKeeps e → IsWorld object p.group p.events nodes spares frames history p.told longest
+        → IsEventCallWithinLimits e → IsWorld object p.group p.events nodes spares frames history p.told longest
         → IsWorld object p.group es nodes spares frames history p.told longest
     idle_world fits h = tells e d h copy fits (idle_is object e was same) refl h.kept es_is
 
@@ -131,10 +131,10 @@ module _ {O A : Type 0} {object : Sequential O} {p old : WorldView A} {nodes : L
     answers_few few = subst (λ l. l ≤ 64) (sym (ap length gives.answers)) few
 
     module _ {s : SpareCalls A} (e : Event A) (spare : s ≡ get_or spares m s)
-        (same : happens object (world_of object old) e ≡ stepped object (world_of object old) i input) where
-      step_is : happens object w e ≡ after_step w i (node_step object (w.nodes i) input)
-      step_is = subst (λ (r : WorldView A). happens object (world_of object r) e ≡ stepped object (world_of object r) i input) (sym here.was) same
-          ∙ ap (λ b. stepped_if object b w i input) (known here)
+        (same : world_after_event object (world_of object old) e ≡ world_after_node_step object (world_of object old) i input) where
+      step_is : world_after_event object w e ≡ after_step w i (node_step object (w.nodes i) input)
+      step_is = subst (λ (r : WorldView A). world_after_event object (world_of object r) e ≡ world_after_node_step object (world_of object r) i input) (sym here.was) same
+          ∙ ap (λ b. world_after_input_if_member object b w i input) (known here)
 
       step_left : HaveCopies s.calls (node_step object (w.nodes i) input).answers
           × Holds (copies_after_answers s.calls (node_step object (w.nodes i) input).answers) (node_step object (w.nodes i) input).node.tickets
@@ -148,7 +148,7 @@ module _ {O A : Type 0} {object : Sequential O} {p old : WorldView A} {nodes : L
       pub step_world : {es : List (Event A)} {fs : List (Transmission A)} {is : List (Item A)} {ts : List (Told A)} {ls : List (Call A)} (d : Event A)
           (s' : SpareCalls A) → d ≡ e
           → stepping_node_in (world_of object old) e ≡ Some i → es ≡ p.events ++ d ∷ [] → s'.calls ≡ copies_after_answers s.calls answered
-          → fs ≡ frames ++ carried_frames i sent → is ≡ history ++ items_of answered → ts ≡ p.told ++ told_by i answered
+          → fs ≡ frames ++ carried_frames i sent → is ≡ history ++ reply_items_of answered → ts ≡ p.told ++ reports_of_answers i answered
           → ls ≡ longest ++ calls_past (length longest) (node_known_log after).committed committed
           → IsWorld object p.group es (slice_set nodes m after) (slice_set spares m s') fs is ts ls
       step_world d s' copy steps es_is s_is fs_is is_is ts_is ls_is =
@@ -156,30 +156,30 @@ module _ {O A : Type 0} {object : Sequential O} {p old : WorldView A} {nodes : L
           let keeps : KeepsCopies after s' = subst (λ cs. Holds cs after.tickets after.done) (sym (s_is ∙ ap (copies_after_answers s.calls) gives.answers))
           (subst (λ (x : Node A). Holds (copies_after_answers s.calls st.answers) x.tickets x.done) (sym gives.node) step_left.1) in
           tells e d here.world copy (step_keeps (world_of object old) e i steps) step_is refl
-          (put_kept here after refl (ap (λ (x : Node A). put w.nodes i x) (sym gives.node))
+          (put_kept here after refl (ap (λ (x : Node A). with_node w.nodes i x) (sym gives.node))
           (ap (λ xs. xs ++ carried_frames i st.sends) (sym kept.frames_are) ∙ sym (fs_is ∙ ap (λ xs. frames ++ carried_frames i xs) gives.sends))
-          (ap (λ xs. xs ++ items_of st.answers) (sym kept.history_is) ∙ sym (is_is ∙ ap (λ xs. history ++ items_of xs) gives.answers))
-          (sym (ap told_of_events (ts_is ∙ ap (λ xs. p.told ++ told_by i xs) gives.answers) ∙ tells_answers p.told w.told kept.told_is i st.answers))
+          (ap (λ xs. xs ++ reply_items_of st.answers) (sym kept.history_is) ∙ sym (is_is ∙ ap (λ xs. history ++ reply_items_of xs) gives.answers))
+          (sym (ap told_of_events (ts_is ∙ ap (λ xs. p.told ++ reports_of_answers i xs) gives.answers) ∙ tells_answers p.told w.told kept.told_is i st.answers))
           (ap (λ (xs : List (Call A)). xs ++ calls_past (length xs) (node_known_log st.node).committed st.committed) (sym kept.longest_is)
           ∙ sym (ls_is ∙ ap (λ (x : Node A). longest ++ calls_past (length longest) (node_known_log x).committed committed) gives.node
           ∙ ap (λ xs. longest ++ calls_past (length longest) (node_known_log st.node).committed xs) gives.committed_is))
           (copies_set here after s' keeps) (length-set spares m s')) es_is
 
       pub step_goes : {es : List (Event A)} {ts : List (Told A)} {done : ℕ} (d : Event A) → d ≡ e → es ≡ p.events ++ d ∷ []
-          → ts ≡ p.told ++ told_by i answered → IsEventOutcome object e old (record { group = p.group; events = es; told = ts; done = done })
-      step_goes d copy es_is ts_is = is_done e d (told_by i (node_step object (w.nodes i) input).answers) here.was copy step_is refl es_is
-          (ts_is ∙ ap (λ xs. p.told ++ told_by i xs) gives.answers)
+          → ts ≡ p.told ++ reports_of_answers i answered → IsEventOutcome object e old (record { group = p.group; events = es; told = ts; done = done })
+      step_goes d copy es_is ts_is = is_done e d (reports_of_answers i (node_step object (w.nodes i) input).answers) here.was copy step_is refl es_is
+          (ts_is ∙ ap (λ xs. p.told ++ reports_of_answers i xs) gives.answers)
 
   -- The node stops
 
   halted_keeps : (s : SpareCalls A) → KeepsCopies (w.nodes i) s → KeepsCopies (node_stopped (w.nodes i)) s
   halted_keeps s k = k
 
-  stop_is : happens object w (Stop i) ≡ stopped_if true w i
-  stop_is = ap (λ b. stopped_if b w i) (known here)
+  stop_is : world_after_event object w (Stop i) ≡ world_after_stop_if_member true w i
+  stop_is = ap (λ b. world_after_stop_if_member b w i) (known here)
 
   halted_kept : {n after : Node A} → n ≡ get_or nodes m n → after ≡ node_stopped n
-      → IsWorldKept (stopped_if true w i) (slice_set nodes m after) spares frames history p.told longest
+      → IsWorldKept (world_after_stop_if_member true w i) (slice_set nodes m after) spares frames history p.told longest
   halted_kept found halted =
       let now = node_stopped (w.nodes i) in
       rw (halted ∙ ap node_stopped (node_is here found)) (put_kept here now refl refl (sym kept.frames_are)
@@ -202,10 +202,10 @@ module _ {O A : Type 0} {object : Sequential O} {p old : WorldView A} {nodes : L
       (refused : fault ≡ (if is_stopped n.core.state then StoppedFault else Memory)) where
     -- because it had stopped; it is unchanged
     module _ (d : Event A) (input : Input A) (stopped : fault ≡ StoppedFault) (copy : d ≡ e)
-        (same : happens object (world_of object old) e ≡ stepped object (world_of object old) i input) where
-      silent_is : happens object w e ≡ stopped_if true w i
+        (same : world_after_event object (world_of object old) e ≡ world_after_node_step object (world_of object old) i input) where
+      silent_is : world_after_event object w e ≡ world_after_stop_if_member true w i
       silent_is =
-          let was = subst (λ (r : WorldView A). happens object (world_of object r) e ≡ stepped object (world_of object r) i input) (sym here.was) same in
+          let was = subst (λ (r : WorldView A). world_after_event object (world_of object r) e ≡ world_after_node_step object (world_of object r) i input) (sym here.was) same in
           let node = w.nodes i in
           let t : is_stopped node.core.state ≡ true = ap (λ (x : Node A). is_stopped x.core.state) (sym (node_is here found))
           ∙ was_stopped (is_stopped n.core.state) fault refused stopped in
@@ -214,15 +214,15 @@ module _ {O A : Type 0} {object : Sequential O} {p old : WorldView A} {nodes : L
           let calls = w.longest ++ calls_past (length w.longest) (node_known_log st.node).committed st.committed in
           let made : (ℕ → Node A) → List (Transmission A) → List (Item A) → List (Told A) → List (Call A) → World A = λ ns fs is ts ls.
           record w { nodes = ns; frames = fs; history = is; told = ts; longest = ls } in
-          let stopped_now = put w.nodes i (node_stopped node) in
-          was ∙ ap (λ b. stepped_if object b w i input) (known here)
-          ∙ ap (λ ns. made ns (w.frames ++ carried_frames i st.sends) (w.history ++ items_of st.answers) (w.told ++ told_by i st.answers) calls)
-          (ap (put w.nodes i) (g.node ∙ sym (stopped_same node t)))
-          ∙ ap (λ fs. made stopped_now fs (w.history ++ items_of st.answers) (w.told ++ told_by i st.answers) calls)
+          let stopped_now = with_node w.nodes i (node_stopped node) in
+          was ∙ ap (λ b. world_after_input_if_member object b w i input) (known here)
+          ∙ ap (λ ns. made ns (w.frames ++ carried_frames i st.sends) (w.history ++ reply_items_of st.answers) (w.told ++ reports_of_answers i st.answers) calls)
+          (ap (with_node w.nodes i) (g.node ∙ sym (stopped_same node t)))
+          ∙ ap (λ fs. made stopped_now fs (w.history ++ reply_items_of st.answers) (w.told ++ reports_of_answers i st.answers) calls)
           (ap (λ xs. w.frames ++ carried_frames i xs) g.sends ∙ append-nil w.frames)
-          ∙ ap (λ is. made stopped_now w.frames is (w.told ++ told_by i st.answers) calls)
-          (ap (λ xs. w.history ++ items_of xs) g.answers ∙ append-nil w.history)
-          ∙ ap (λ ts. made stopped_now w.frames w.history ts calls) (ap (λ xs. w.told ++ told_by i xs) g.answers ∙ append-nil w.told)
+          ∙ ap (λ is. made stopped_now w.frames is (w.told ++ reports_of_answers i st.answers) calls)
+          (ap (λ xs. w.history ++ reply_items_of xs) g.answers ∙ append-nil w.history)
+          ∙ ap (λ ts. made stopped_now w.frames w.history ts calls) (ap (λ xs. w.told ++ reports_of_answers i xs) g.answers ∙ append-nil w.told)
           ∙ ap (made stopped_now w.frames w.history w.told) (no_calls_past w.longest (node_known_log st.node).committed st.committed g.committed)
 
       pub silent_world : {after : Node A} {es : List (Event A)} → after ≡ node_stopped n → stepping_node_in (world_of object old) e ≡ Some i
@@ -252,7 +252,7 @@ module _ {O A : Type 0} {object : Sequential O} {p old : WorldView A} {nodes : L
 
     -- for either reason
     module _ (d x : Event A) (input : Input A) (copy : d ≡ e) (stays : fault ≡ StoppedFault → x ≡ d) (stops : (fault ≡ StoppedFault → ⊥) → x ≡ Stop i)
-        (same : happens object (world_of object old) e ≡ stepped object (world_of object old) i input)
+        (same : world_after_event object (world_of object old) e ≡ world_after_node_step object (world_of object old) i input)
         (steps : stepping_node_in (world_of object old) e ≡ Some i) where
       why : (b : Bool) → fault ≡ (if b then StoppedFault else Memory) → (fault ≡ StoppedFault) ⊎ (fault ≡ StoppedFault → ⊥)
       why true h = inl h
@@ -288,24 +288,24 @@ module _ {O A : Type 0} {object : Sequential O} {p old : WorldView A} {nodes : L
     goes : (q : WorldView A) → IsEventOutcome object (Issue i c) old q → IsEventOutcome object e old q
     goes q g = subst (λ (x : Event A). IsEventOutcome object x old q) (sym event) g
 
-    issue_is : (o : Option Fault) → submit_fault n ≡ o → happens object w (Issue i c) ≡ issued_or o w i c
-    issue_is o is = ap (λ b. issued_if b w i c) (known here) ∙ ap (λ x. issued_or x w i c) (ap submit_fault (sym (node_is here found)) ∙ is)
+    issue_is : (o : Option Fault) → submit_fault n ≡ o → world_after_event object w (Issue i c) ≡ world_after_submit o w i c
+    issue_is o is = ap (λ b. world_after_submit_if_member b w i c) (known here) ∙ ap (λ x. world_after_submit x w i c) (ap submit_fault (sym (node_is here found)) ∙ is)
 
-    pub issue_world : {s : SpareCalls A} {after : Node A} {es : List (Event A)} {is : List (Item A)} {a b : Call A} (s' : SpareCalls A) → EventKeeps e
-        → submit_fault n ≡ None → after ≡ submitted n c → s ≡ get_or spares m s → a ≡ c → s'.calls ≡ s.calls ++ Some a ∷ []
+    pub issue_world : {s : SpareCalls A} {after : Node A} {es : List (Event A)} {is : List (Item A)} {a b : Call A} (s' : SpareCalls A) → IsEventCallWithinLimits e
+        → submit_fault n ≡ None → after ≡ node_after_submit n c → s ≡ get_or spares m s → a ≡ c → s'.calls ≡ s.calls ++ Some a ∷ []
         → b ≡ c → is ≡ history ++ IssuedItem b ∷ [] → es ≡ p.events ++ d ∷ []
         → IsWorld object p.group es (slice_set nodes m after) (slice_set spares m s') frames is p.told longest
     issue_world {s} {after} s' fits free after_is spare a_is s_is b_is is_is es_is =
         let node = w.nodes i in
         let t : TicketCall A = record { call = c; since = length node.done } in
-        let now : after ≡ submitted node c = after_is ∙ ap (λ (x : Node A). submitted x c) (node_is here found) in
+        let now : after ≡ node_after_submit node c = after_is ∙ ap (λ (x : Node A). node_after_submit x c) (node_is here found) in
         let calls : s'.calls ≡ s.calls ++ Some c ∷ [] = s_is ∙ ap (λ x. s.calls ++ Some x ∷ []) a_is in
-        let holds : Holds (s.calls ++ Some c ∷ []) (submitted node c).tickets node.done =
+        let holds : Holds (s.calls ++ Some c ∷ []) (node_after_submit node c).tickets node.done =
         copies-more s.calls node.tickets node.done t (copies_are here spare) in
         let keeps : KeepsCopies after s' = subst (λ cs. Holds cs after.tickets after.done) (sym calls)
         (subst (λ (x : Node A). Holds (s.calls ++ Some c ∷ []) x.tickets x.done) (sym now) holds) in
-        tells (Issue i c) d here.world copy (subst EventKeeps event fits) (issue_is None free) refl
-        (put_kept here after refl (ap (λ (x : Node A). put w.nodes i x) (sym now)) (sym kept.frames_are)
+        tells (Issue i c) d here.world copy (subst IsEventCallWithinLimits event fits) (issue_is None free) refl
+        (put_kept here after refl (ap (λ (x : Node A). with_node w.nodes i x) (sym now)) (sym kept.frames_are)
         (ap (λ xs. xs ++ IssuedItem c ∷ []) (sym kept.history_is) ∙ sym (is_is ∙ ap (λ x. history ++ IssuedItem x ∷ []) b_is))
         (sym kept.told_is) (sym kept.longest_is) (copies_set here after s' keeps) (length-set spares m s')) es_is
 
@@ -325,7 +325,7 @@ module _ {O A : Type 0} {object : Sequential O} {p old : WorldView A} {nodes : L
       events_are : (f : Fault) → submit_fault n ≡ Some f → fault ≡ f → es ≡ p.events ++ d ∷ []
       events_are f is same = stays (λ q. not_memory n f is (sym same ∙ q))
 
-      refused_world : (o : Option Fault) → submit_fault n ≡ o → MatchOption o (fault ≡ Memory) (λ first. fault ≡ first) → EventKeeps e
+      refused_world : (o : Option Fault) → submit_fault n ≡ o → MatchOption o (fault ≡ Memory) (λ first. fault ≡ first) → IsEventCallWithinLimits e
           → IsWorld object p.group es nodes spares frames history ts longest
       refused_world None is first fits = rw (out first) record {
         kept = record {
@@ -345,7 +345,7 @@ module _ {O A : Type 0} {object : Sequential O} {p old : WorldView A} {nodes : L
       refused_world (Some f) is first fits =
           let node = node_is here found in
           let told = ap told_of_events (told_is first) ∙ tells_refusal p.told w.told kept.told_is n f i c is in
-          let now : IsWorldKept (issued_or (Some f) w i c) nodes spares frames history ts longest = record {
+          let now : IsWorldKept (world_after_submit (Some f) w i c) nodes spares frames history ts longest = record {
             nodes_are = kept.nodes_are;
             many = kept.many;
             copies = kept.copies;
@@ -355,9 +355,9 @@ module _ {O A : Type 0} {object : Sequential O} {p old : WorldView A} {nodes : L
             told_is = told;
             longest_is = kept.longest_is;
           } in
-          tells (Issue i c) d here.world copy (subst EventKeeps event fits) (issue_is (Some f) is) refl now (events_are f is first)
+          tells (Issue i c) d here.world copy (subst IsEventCallWithinLimits event fits) (issue_is (Some f) is) refl now (events_are f is first)
 
-      pub refusal_world : {after : Node A} → after ≡ n → EventKeeps e → IsWorld object p.group es (slice_set nodes m after) spares frames history ts longest
+      pub refusal_world : {after : Node A} → after ≡ n → IsEventCallWithinLimits e → IsWorld object p.group es (slice_set nodes m after) spares frames history ts longest
       refusal_world same fits =
           subst (λ ns. IsWorld object p.group es ns spares frames history ts longest) (sym (same_nodes here (same ∙ node_is here found)))
           (refused_world (submit_fault n) refl why fits)

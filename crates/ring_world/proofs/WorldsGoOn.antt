@@ -9,10 +9,10 @@ use Rattle.ring_session.specs.Deduplicated.{deduplicated}
 use Rattle.ring_node_spec.specs.Histories.{IsLinearization}
 use Rattle.ring_node_spec.specs.declared.event.Event.{Event}
 use Rattle.ring_node_spec.specs.Worlds.{World, world_opening, run, order, whole_epochs_in}
-use Rattle.ring_order_proof.specs.Linear.{EventKeeps, HasCommittedPlaces, FollowsOrder}
+use Rattle.ring_order_proof.specs.Linear.{IsEventCallWithinLimits, HasCommittedPlaces, FollowsOrder}
 use Rattle.ring_order_proof.proofs.SynchronousRuns.{synchronous_run}
 use Rattle.ring_world.specs.WorldView.{WorldView, world_of, IsEventOutcome}
-use Rattle.ring_world.specs.Shown.{IsContinuation}
+use Rattle.ring_world.specs.RunProperties.{IsContinuation}
 use Rattle.ring_world.proofs.OutputsGrow.{longer_told}
 use Rattle.ring_world.proofs.Playing.{IsLonger, goes_longer, world_later}
 
@@ -24,18 +24,18 @@ longer_list object e p q (Err x) goes same =
     record { later = []; group = ap (λ (r : WorldView _). r.group) same; events = ap (λ (r : WorldView _). r.events) same ∙ sym (append-nil p.events) }
 
 module _ {O A : Type 0} (object : Sequential O)
-    (explains : (group : Group) (events : List (Event A)) → group.count ≤ 16 → AllByRecursion EventKeeps events →
+    (explains : (group : Group) (events : List (Event A)) → group.count ≤ 16 → AllByRecursion IsEventCallWithinLimits events →
     IsLinearization object (order (run object (world_opening group) events)) (run object (world_opening group) events).history)
     (grows : (group : Group) (events later : List (Event A)) → group.count ≤ 16 →
     IsListPrefix (order (run object (world_opening group) events)) (order (run object (run object (world_opening group) events) later)))
     (fronts : (group : Group) (events : List (Event A)) (node : ℕ) → group.count ≤ 16 → 1 ≤ node → node ≤ group.count →
     IsListPrefix (deduplicated (committed_of group (whole_epochs_in (run object (world_opening group) events) node)))
     (order (run object (world_opening group) events)))
-    (follows : (group : Group) (events : List (Event A)) (node : ℕ) → group.count ≤ 16 → AllByRecursion EventKeeps events → 1 ≤ node → node ≤ group.count →
+    (follows : (group : Group) (events : List (Event A)) (node : ℕ) → group.count ≤ 16 → AllByRecursion IsEventCallWithinLimits events → 1 ≤ node → node ≤ group.count →
     HasCommittedPlaces object ((run object (world_opening group) events).nodes node) (committed_of group (whole_epochs_in (run object (world_opening group) events) node))
     × FollowsOrder object ((run object (world_opening group) events).nodes node)
     (committed_of group (whole_epochs_in (run object (world_opening group) events) node)) (order (run object (world_opening group) events))) where
-  pub goes_on : (p q : WorldView A) → q.group.count ≤ 16 → AllByRecursion EventKeeps q.events → IsLonger object p q → IsContinuation object p q
+  pub goes_on : (p q : WorldView A) → q.group.count ≤ 16 → AllByRecursion IsEventCallWithinLimits q.events → IsLonger object p q → IsContinuation object p q
   goes_on p q few keep l =
       let few_before : p.group.count ≤ 16 = subst (λ (group : Group). group.count ≤ 16) l.group few in
       record {

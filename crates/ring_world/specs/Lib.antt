@@ -1,11 +1,11 @@
 pub mod StoredFramesView
 pub mod SpareCalls
 pub mod WorldView
-pub mod Shown
+pub mod RunProperties
 pub mod Steps
 pub mod LongestCommitted
 pub mod Ordering
-pub mod Keeping
+pub mod WorldInvariant
 pub mod OpenCopies
 pub mod Pumping
 pub mod Refusals

@@ -35,11 +35,11 @@ opened_since old new = drop (length (all_copies old)) (all_copies new)
 
 -- the open copies: those left of one frame, and all of each later frame
 abbrev pub open_copies_from : {A : Type 0} → OpenCopies → List (Transmission A) → List OpenCopy
-open_copies_from p frames = copies_of_frame p.frame p.sender p.left ++ copies_after p.frame (drop p.frame (within_reach frames))
+open_copies_from p frames = copies_of_frame p.reached_frame p.sender p.open_receivers ++ copies_after p.reached_frame (drop p.reached_frame (within_reach frames))
 
 -- the frame with open copies was sent, or its number is 0
 abbrev pub IsReached : {A : Type 0} → OpenCopies → List (Transmission A) → Type 0
-IsReached p frames = p.frame ≤ length (within_reach frames)
+IsReached p frames = p.reached_frame ≤ length (within_reach frames)
 
 -- the first copy is taken, if there is one
 abbrev pub IsFirstCopyTaken : List OpenCopy → Option OpenCopy → List OpenCopy → Type 0

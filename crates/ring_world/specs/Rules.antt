@@ -4,4 +4,4 @@ pub use Rattle.ring_node_spec.specs.Nodes.{Node, node_known_log, node_length, no
 pub use Rattle.ring_node_spec.specs.WorldLimits.{EventFits}
 pub use Rattle.ring_node_spec.specs.Worlds.{World, order}
 pub use Rattle.ring_node_spec.specs.declared.event.Event.{Event}
-pub use Rattle.ring_node_spec.specs.declared.told.Told.{Told}
+pub use Rattle.ring_node_spec.specs.declared.client_report.Told.{Told}

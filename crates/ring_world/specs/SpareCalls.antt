@@ -3,8 +3,8 @@
 -- Rules: The replicated log 13 to 15
 use Rattle.std.specs.Prelude.{◌≡◌, ℕ, List, [], ◌∷◌, length, Option, Some, None, slice_get, slice_set}
 use Rattle.ring_payload.specs.declared.call.Call.{Call}
-use Rattle.ring_session.specs.declared.answered.TicketAnswer.{TicketAnswer}
-use Rattle.ring_session.specs.Tickets.{TicketCall, place_of}
+use Rattle.ring_session.specs.declared.ticket_answer.TicketAnswer.{TicketAnswer}
+use Rattle.ring_session.specs.Tickets.{TicketCall, answering_place}
 
 -- the view of contracts: by ticket, the copy that is left; and the number of tickets that there is still room for
 pub record SpareCalls (A : Type 0) : Type 0 where
@@ -18,7 +18,7 @@ HasCopy calls ticket c = slice_get calls ticket ≡ Some (Some c)
 -- each ticket has its copy, unless a call of `done` answers it
 pub record Holds {A : Type 0} (calls : List (Option (Call A))) (tickets : List (TicketCall A)) (done : List (Call A)) : Type 0 where
   pub many : length calls ≡ length tickets
-  pub each : (k : ℕ) (t : TicketCall A) → slice_get tickets k ≡ Some t → place_of done t ≡ None → HasCopy calls k t.call
+  pub each : (k : ℕ) (t : TicketCall A) → slice_get tickets k ≡ Some t → answering_place done t ≡ None → HasCopy calls k t.call
 
 -- Answers, one after another
 

@@ -6,7 +6,7 @@ use Rattle.std.specs.List.{AllByRecursion}
 use Rattle.ring_base.specs.Processors.{has}
 use Rattle.ring_wire.specs.Frames.{encoding_of, FrameFits}
 use Rattle.ring_core_spec.specs.State.{Transmission}
-use Rattle.ring_world.specs.declared.frames.FramePosition.{FramePosition}
+use Rattle.ring_world.specs.declared.frame_store.FramePosition.{FramePosition}
 use Rattle.ring_base.specs.Numbers.{max_frame_bytes}
 
 -- the view of contracts: the frames, and the room left, in frames and in bytes
@@ -29,7 +29,7 @@ text_of (f ∷ fs) = encoding_of f.frame ++ text_of fs
 
 -- the position of a frame whose encoding begins at `at`
 abbrev pub position_of : {A : Type 0} → ℕ → Transmission A → FramePosition
-position_of at f = record { start = at; end = at + length (encoding_of f.frame); from = f.from; to = f.to }
+position_of at f = record { start = at; end = at + length (encoding_of f.frame); sender = f.from; to = f.to }
 
 -- the positions of these frames, the first of which begins at `at`
 abbrev pub positions_from : {A : Type 0} → ℕ → List (Transmission A) → List FramePosition

@@ -12,9 +12,9 @@ use Rattle.ring_node_spec.specs.Nodes.{is_stopped}
 use Rattle.ring_node_spec.specs.Stepping.{submit_fault}
 use Rattle.ring_node_spec.specs.declared.event.Event.{Event}
 use Rattle.ring_node_spec.specs.declared.event.Event.TheVariants.{Issue, Deliver, Noise, Timeout, Stop}
-use Rattle.ring_node_spec.specs.declared.told.Told.{Told}
-use Rattle.ring_node_spec.specs.declared.told.Told.TheVariants.{Answer, Refused}
-use Rattle.ring_node_spec.specs.Worlds.{World, world_opening, run, happens, is_node}
+use Rattle.ring_node_spec.specs.declared.client_report.Told.{Told}
+use Rattle.ring_node_spec.specs.declared.client_report.Told.TheVariants.{Answer, Refused}
+use Rattle.ring_node_spec.specs.Worlds.{World, world_opening, run, world_after_event, is_node}
 
 -- the view of contracts: all events since the opening, the reports to clients, and the number of events that the last run
 -- did
@@ -61,7 +61,7 @@ module _ {O : Type 0} (object : Sequential O) where
 
   -- the reports of the event in this world
   abbrev pub told_by_event : {A : Type 0} → World A → Event A → List (Told A)
-  told_by_event w e = drop (length w.told) (happens object w e).told
+  told_by_event w e = drop (length w.told) (world_after_event object w e).told
 
   -- the event was done
   pub record IsDone {A : Type 0} (e : Event A) (p q : WorldView A) : Type 0 where

@@ -3,11 +3,11 @@
 ghost use Rattle.std.specs.Prelude.{◌≡◌, IfOk, IfErr};
 ghost use Rattle.ring_base.specs.declared.fault.Fault.TheVariants.{Memory};
 ghost use Rattle.ring_node_spec.specs.WorldLimits.{EventFits};
-ghost use Rattle.ring_order_proof.specs.Linear.{EventKeeps};
+ghost use Rattle.ring_order_proof.specs.Linear.{IsEventCallWithinLimits};
 
 use ring_base::Fault;
 use ring_node_spec::{Event, Item, Told};
-use ring_order_proof::fit_laws::call_keeps_law;
+use ring_order_proof::limit_laws::call_fits_snapshot_law;
 use std::alloc::Allocator;
 
 /// Returns a copy of the event.
@@ -18,7 +18,7 @@ use std::alloc::Allocator;
 /// Errors: `Memory` if an allocation fails.
 pub(crate) fn copy_event<A: Allocator + Copy>(event: &Event<A>) -> Result<Event<A>, Fault>
     ensures ok { IfOk result (λ copy. copy ≡ event.now) }
-    ensures keeps { IfOk result (λ _. EventFits event.now → EventKeeps event.now) }
+    ensures keeps { IfOk result (λ _. EventFits event.now → IsEventCallWithinLimits event.now) }
     ensures refused { IfErr result (λ fault. fault ≡ Memory) }
 {
     // A law: no effect at run time. The proof takes from it that a call within the limits of frames is within those of
@@ -69,10 +69,10 @@ pub(crate) fn copy_history<A: Allocator + Copy>(
 
 /// States that a call that is within the limits of frames can be encoded in a snapshot.
 fn event_keeps_law<A: Allocator + Copy>(event: &Event<A>)
-    ensures { EventFits event.now → EventKeeps event.now }
+    ensures { EventFits event.now → IsEventCallWithinLimits event.now }
 {
     match event {
-        Event::Issue(_, call) => call_keeps_law(call),
+        Event::Issue(_, call) => call_fits_snapshot_law(call),
         Event::Deliver(_, _) | Event::Noise(_, _) | Event::Timeout(_, _) | Event::Stop(_) => {}
     }
 }

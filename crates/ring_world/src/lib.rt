@@ -5,20 +5,20 @@
 
 mod answer_records;
 mod copies;
-mod frames;
-mod longest;
+mod effect_counts;
+mod frame_store;
+mod longest_committed;
+mod memory_stops;
 mod open_copies;
-mod order;
 mod pump;
-mod refusals;
 mod run_record;
-mod spares;
+mod spare_calls;
 mod world;
 
+pub use memory_stops::stopped_for_memory_law;
 pub use open_copies::OpenCopy;
 pub use pump::Pump;
-pub use refusals::stopped_for_memory_law;
 pub use ring_node::Node;
 pub use ring_node_spec::{Event, Item, Noise, Told};
-pub use ring_order_proof::laws::linear_law;
+pub use ring_order_proof::linear_laws::linear_law;
 pub use world::World;

@@ -31,21 +31,21 @@ pub struct OpenCopy {
 #[derive(Clone, Copy)]
 pub(crate) struct OpenCopies {
     /// The number of the frame that the set has reached, of which some copies are open, or 0 before the first frame.
-    frame: u64,
+    reached_frame: u64,
     sender: Proc,
     /// The receivers whose copies of that frame are open.
-    left: ProcSet,
+    open_receivers: ProcSet,
 }
 
 impl OpenCopies {
     /// Returns the set in which all copies of all frames are open.
     pub(crate) fn new() -> OpenCopies
-        ensures { result ≡ record { frame = 0; sender = 1; left = nobody } }
+        ensures { result ≡ record { reached_frame = 0; sender = 1; open_receivers = nobody } }
     {
         OpenCopies {
-            frame: 0,
+            reached_frame: 0,
             sender: Proc::new(1),
-            left: ProcSet::new(),
+            open_receivers: ProcSet::new(),
         }
     }
 
@@ -56,7 +56,7 @@ impl OpenCopies {
     /// The world must have sent the frame that the set has reached.
     ///
     /// Formats: Pump
-    pub(crate) fn first<O: Object>(&self, world: &World<O>) -> Option<OpenCopy>
+    pub(crate) fn first_open<O: Object>(&self, world: &World<O>) -> Option<OpenCopy>
         requires { IsReached self.now (frames_of O.sequential world.now) }
         ensures { result ≡ slice_get (open_copies_from self.now (frames_of O.sequential world.now)) 0 }
     {
@@ -74,15 +74,17 @@ impl OpenCopies {
         ensures takes { IsFirstCopyTaken (open_copies_from self.old (frames_of O.sequential world.now)) result (open_copies_from self.new (frames_of O.sequential world.now)) }
         ensures reached { IsReached self.new (frames_of O.sequential world.now) }
     {
-        while self.left.is_empty() {
-            if !self.advance(world) {
+        while self.open_receivers.is_empty() {
+            if !self.advance_to_next_frame(world) {
                 return None;
             }
         }
-        let receiver = self.left.smallest()?;
-        self.left = self.left.less(ProcSet::only(receiver));
+        let receiver = self.open_receivers.smallest()?;
+        self.open_receivers = self
+            .open_receivers
+            .without_members(ProcSet::singleton(receiver));
         Some(OpenCopy {
-            frame: self.frame,
+            frame: self.reached_frame,
             sender: self.sender,
             receiver,
         })
@@ -91,23 +93,23 @@ impl OpenCopies {
     /// Advances to the next frame.
     ///
     /// Returns false if there is none. No copy of the present frame may be open.
-    fn advance<O: Object>(&mut self, world: &World<O>) -> bool
-        requires none { self.old.left ≡ nobody }
+    fn advance_to_next_frame<O: Object>(&mut self, world: &World<O>) -> bool
+        requires none { self.old.open_receivers ≡ nobody }
         requires reached { IsReached self.old (frames_of O.sequential world.now) }
         ensures same { open_copies_from self.new (frames_of O.sequential world.now) ≡ open_copies_from self.old (frames_of O.sequential world.now) }
         ensures reached { IsReached self.new (frames_of O.sequential world.now) }
-        ensures next { result ≡ true → self.new.frame ≡ self.old.frame + 1 }
+        ensures next { result ≡ true → self.new.reached_frame ≡ self.old.reached_frame + 1 }
         ensures last { result ≡ false → IsFirstCopyTaken (open_copies_from self.old (frames_of O.sequential world.now)) None
             (open_copies_from self.new (frames_of O.sequential world.now)) }
     {
-        let Some(number) = self.frame.checked_add(1) else {
+        let Some(number) = self.reached_frame.checked_add(1) else {
             return false;
         };
         match world.frame(number) {
             Some(sent) => {
-                self.frame = number;
+                self.reached_frame = number;
                 self.sender = sent.0;
-                self.left = sent.1;
+                self.open_receivers = sent.1;
                 true
             }
             None => false,

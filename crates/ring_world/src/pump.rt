@@ -105,7 +105,7 @@ impl<O: Object> Pump<O> {
     pub fn first_open_copy(&self) -> Option<OpenCopy>
         ensures { result ≡ slice_get self.now.open_copies 0 }
     {
-        self.open_copies.first(&self.world)
+        self.open_copies.first_open(&self.world)
     }
 
     /// Closes the first open copy and returns it, or returns `None` if none is open.

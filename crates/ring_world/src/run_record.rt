@@ -7,8 +7,8 @@ ghost use Rattle.ring_base.specs.declared.fault.Fault.TheVariants.{Memory};
 ghost use Rattle.ring_world.specs.StoredFramesView.{HasRoom};
 
 use crate::copies::{copy_events, copy_history, copy_told};
-use crate::frames::Frames;
-use crate::longest::LongestCommitted;
+use crate::frame_store::FrameStore;
+use crate::longest_committed::LongestCommitted;
 use ring_base::Fault;
 use ring_node_spec::{Event, Item, Told};
 use ring_session::MAX_UNANSWERED;
@@ -29,7 +29,7 @@ pub(crate) struct RunRecord<A: Allocator + Copy> {
     /// The issued calls and the replies, in the order of events.
     pub history: Vec<Item<A>, A>,
     /// All frames ever sent, numbered from 1.
-    pub frames: Frames<A>,
+    pub frames: FrameStore<A>,
     /// The longest committed log of all nodes, from its beginning.
     pub longest: LongestCommitted<A>,
 }
@@ -49,7 +49,7 @@ impl<A: Allocator + Copy> RunRecord<A> {
             events: Vec::new(alloc),
             told: Vec::new(alloc),
             history: Vec::new(alloc),
-            frames: Frames::new(alloc),
+            frames: FrameStore::new(alloc),
             longest: LongestCommitted::new(alloc),
         }
     }

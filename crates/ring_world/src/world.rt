@@ -18,33 +18,33 @@ ghost use Rattle.ring_node_spec.specs.Nodes.{node_opening, node_stopped};
 ghost use Rattle.ring_node_spec.specs.declared.event.Event.TheVariants.{Issue, Stop};
 ghost use Rattle.ring_node_spec.specs.declared.input.Input.TheVariants.{Timeout as TimeInput};
 ghost use Rattle.ring_node_spec.specs.declared.item.Item.TheVariants.{Issue as IssuedItem};
-ghost use Rattle.ring_node_spec.specs.declared.told.Told.TheVariants.{Refused as ToldRefused};
+ghost use Rattle.ring_node_spec.specs.declared.client_report.Told.TheVariants.{Refused as ToldRefused};
 ghost use Rattle.ring_node_spec.specs.Histories.{IsLinearization};
 ghost use Rattle.ring_node_spec.specs.WorldLimits.{EventFits};
-ghost use Rattle.ring_node_spec.specs.Worlds.{calls_past, carried_frames, happens, items_of, told_by, order, whole_epochs_in, world_opening};
-ghost use Rattle.ring_order_proof.specs.Linear.{EventKeeps, HasCommittedPlaces, FollowsOrder};
+ghost use Rattle.ring_node_spec.specs.Worlds.{calls_past, carried_frames, world_after_event, reply_items_of, reports_of_answers, order, whole_epochs_in, world_opening};
+ghost use Rattle.ring_order_proof.specs.Linear.{IsEventCallWithinLimits, HasCommittedPlaces, FollowsOrder};
 ghost use Rattle.ring_order_proof.specs.Projection.{core_events_of_run};
 ghost use Rattle.ring_order_proof.specs.Synchronous.{IsSynchronous};
 ghost use Rattle.ring_world.specs.WorldView.{WorldView, opening_world_view, told_of_events, world_of, IsEventOutcome, IsRunOfEvents};
-ghost use Rattle.ring_world.specs.Shown.{IsContinuation};
+ghost use Rattle.ring_world.specs.RunProperties.{IsContinuation};
 ghost use Rattle.ring_world.specs.Steps.{stepping_node, event_input, delivered_frame, HasStepped};
 ghost use Rattle.ring_world.specs.StoredFramesView.{HasRoom, text_of};
 ghost use Rattle.ring_world.specs.SpareCalls.{SpareCalls as ToldSpares, HaveCopies, copies_after_answers};
 
 use crate::answer_records::record_answers;
 use crate::copies::copy_event;
-use crate::frames::Frames;
-use crate::order::max_effects;
+use crate::effect_counts::max_effects;
+use crate::frame_store::FrameStore;
 use crate::run_record::RunRecord;
-use crate::spares::SpareCalls;
+use crate::spare_calls::SpareCalls;
 use ring_base::{Fault, Fixed, Kind, Proc, ProcSet};
 use ring_node::{Input, Node, OutgoingFrame, Outs};
 use ring_node_spec::{Event, Item, Told};
 use ring_object::Object;
-use ring_order_proof::effect_laws::effects_law;
-use ring_order_proof::frame_laws::{frames_law, pending_law, step_counts_law};
-use ring_order_proof::laws::linear_law;
-use ring_order_proof::longest_laws::longest_law;
+use ring_order_proof::effect_laws::committed_effects_law;
+use ring_order_proof::frame_laws::{pending_tickets_law, sent_frames_fit_law, step_counts_law};
+use ring_order_proof::linear_laws::linear_law;
+use ring_order_proof::longest_laws::longest_committed_log_law;
 use ring_payload::Call;
 use ring_session::copy_of;
 use ring_wire::Frame;
@@ -77,14 +77,14 @@ struct StepBuffers<A: Allocator + Copy> {
     /// The frame that was decoded last.
     ///
     /// The next one overwrites it.
-    place: Option<Frame<A>>,
+    frame_buffer: Option<Frame<A>>,
     /// The lists that a node fills with the outputs of a step.
     outs: Outs<A>,
 }
 
 impl<O: Object> Model for World<O> {
     ghost use Rattle.ring_world.specs.WorldView.{WorldView};
-    ghost use Rattle.ring_world.specs.Keeping.{IsWorld};
+    ghost use Rattle.ring_world.specs.WorldInvariant.{IsWorld};
 
     ghost Value = { WorldView O.Alloc };
 
@@ -179,7 +179,7 @@ impl<O: Object> World<O> {
         self.done = 0;
         let ran = self.run_all(events);
         // A law: no effect at run time. The proof takes from it that this is a run whose calls are within the limits.
-        self.run_law();
+        self.run_limits_law();
         ran
     }
 
@@ -202,7 +202,7 @@ impl<O: Object> World<O> {
         linear_law::<O>();
         let ran = self.run_event(event);
         // A law: no effect at run time. The proof takes from it that this is a run whose calls are within the limits.
-        self.run_law();
+        self.run_limits_law();
         ran
     }
 
@@ -212,9 +212,9 @@ impl<O: Object> World<O> {
     /// So a snapshot can encode the call. Laws of runs, such as `linear_law`, require both.
     ///
     /// Rules: Processors and sets 1; Sessions 1 and 12
-    pub fn run_law(&self)
+    pub fn run_limits_law(&self)
         ensures few { self.now.group.count ≤ 16 }
-        ensures keep { AllByRecursion EventKeeps self.now.events }
+        ensures keep { AllByRecursion IsEventCallWithinLimits self.now.events }
     {
         // No effect at run time. The proof sees the invariant of `World` only where the body reads a field.
         let _ = &self.alloc;
@@ -233,13 +233,13 @@ impl<O: Object> World<O> {
     {
         for event in events {
             self.run_event(event)?;
-            self.count(events.len());
+            self.count_done_event(events.len());
         }
         Ok(())
     }
 
     /// Adds 1 to the number of done events, which must be below `many`.
-    fn count(&mut self, many: usize)
+    fn count_done_event(&mut self, many: usize)
         requires { self.old.done < many }
         ensures { self.new ≡ record self.old { done = self.old.done + 1 } }
     {
@@ -305,8 +305,8 @@ impl<O: Object> World<O> {
     {
         // A law: no effect at run time. The proof takes from it that the effective calls of the longest log are the
         // order.
-        longest_law::<O>();
-        self.run_record.longest.order(self.alloc)
+        longest_committed_log_law::<O>();
+        self.run_record.longest.copy_effective_calls(self.alloc)
     }
 
     /// Returns the number of calls in `order`.
@@ -319,7 +319,7 @@ impl<O: Object> World<O> {
     {
         // A law: no effect at run time. The proof takes from it that a node's sessions count the effective calls of its
         // log.
-        effects_law::<O>();
+        committed_effects_law::<O>();
         max_effects(&self.nodes)
     }
 
@@ -338,10 +338,10 @@ impl<O: Object> World<O> {
     {
         // A law: no effect at run time. The proof takes from it that a node's committed places are a prefix of the
         // longest log.
-        longest_law::<O>();
+        longest_committed_log_law::<O>();
         let place = usize::from(node.number()) - 1;
         let many = self.nodes[place].committed_len();
-        self.run_record.longest.first(self.alloc, many)
+        self.run_record.longest.copy_first_calls(self.alloc, many)
     }
 
     /// Returns the node of a processor, after the events that have been run so far.
@@ -364,7 +364,7 @@ impl<O: Object> World<O> {
     pub fn frame(&self, number: u64) -> Option<(Proc, ProcSet)>
         ensures { result ≡ option_map (λ (f : Transmission O.Alloc). (f.from, f.to)) (frame_at (world_of O.sequential self.now).frames number) }
     {
-        self.run_record.frames.ends(number)
+        self.run_record.frames.sender_and_receivers(number)
     }
 
     /// Returns the encodings of all frames ever sent, one after another in the order of sending.
@@ -374,7 +374,7 @@ impl<O: Object> World<O> {
     pub fn sent_text(&self) -> &[u8]
         ensures { result.now ≡ text_of (world_of O.sequential self.now).frames }
     {
-        self.run_record.frames.text()
+        self.run_record.frames.all_encodings()
     }
 
     /// Returns the world's group: the number of processors, and their votes.
@@ -397,20 +397,20 @@ impl<O: Object> World<O> {
         ensures refused { IfErr result (λ fault. fault ≡ Memory) }
     {
         match event {
-            Event::Issue(node, call) => self.issue(*node, call, event),
-            Event::Deliver(node, _) => self.step(*node, event),
-            Event::Noise(_, _) => self.idle(event),
-            Event::Timeout(node, _) => self.step(*node, event),
-            Event::Stop(node) => self.stop(*node, event),
+            Event::Issue(node, call) => self.submit_and_record(*node, call, event),
+            Event::Deliver(node, _) => self.step_and_record(*node, event),
+            Event::Noise(_, _) => self.record_event_only(event),
+            Event::Timeout(node, _) => self.step_and_record(*node, event),
+            Event::Stop(node) => self.stop_and_record(*node, event),
         }
     }
 
     /// Records an event that changes nothing but the list of events.
     ///
     /// Rules: The book and the threads 4
-    fn idle(&mut self, event: &Event<O::Alloc>) -> Result<(), Fault>
+    fn record_event_only(&mut self, event: &Event<O::Alloc>) -> Result<(), Fault>
         requires fits { EventFits event.now }
-        requires same { happens O.sequential (world_of O.sequential self.old) event.now ≡ world_of O.sequential self.old }
+        requires same { world_after_event O.sequential (world_of O.sequential self.old) event.now ≡ world_of O.sequential self.old }
         ensures ok { OnOk result (IsEventOutcome O.sequential event.now self.old self.new) }
         ensures err { OnErr result (self.new ≡ self.old) }
         ensures done { self.new.done ≡ self.old.done }
@@ -426,7 +426,7 @@ impl<O: Object> World<O> {
     ///
     /// If there is no such node, or the frame wasn't sent to it, only the list of events changes. If an allocation
     /// fails in the step, the node has stopped, and `Stop` is recorded instead of the event.
-    fn step(&mut self, node: Proc, event: &Event<O::Alloc>) -> Result<(), Fault>
+    fn step_and_record(&mut self, node: Proc, event: &Event<O::Alloc>) -> Result<(), Fault>
         requires { stepping_node event.now ≡ Some node }
         ensures ok { OnOk result (IsEventOutcome O.sequential event.now self.old self.new) }
         ensures err { OnErr result (self.new ≡ self.old) }
@@ -436,32 +436,32 @@ impl<O: Object> World<O> {
         // Laws: no effect at run time. The proof takes from them that a step gives at most 64 frames and answers, all
         // within the limits.
         step_counts_law::<O>();
-        pending_law::<O>();
-        frames_law::<O>();
+        pending_tickets_law::<O>();
+        sent_frames_fit_law::<O>();
         let place = usize::from(node.number()) - 1;
         if place >= self.nodes.len() {
-            return self.idle(event);
+            return self.record_event_only(event);
         }
-        let is_step = read_delivered(
+        let is_step = decode_delivered_frame(
             &self.run_record.frames,
             self.alloc,
             event,
-            &mut self.buffers.place,
+            &mut self.buffers.frame_buffer,
         )?;
         if !is_step {
-            return self.idle(event);
+            return self.record_event_only(event);
         }
         self.run_record.make_room()?;
         let kept = copy_event(event)?;
         match step_node(
             &mut self.nodes[place],
             event,
-            &self.buffers.place,
+            &self.buffers.frame_buffer,
             &mut self.buffers.outs,
         ) {
             Ok(()) => {
                 let many = self.nodes[place].committed_len();
-                keep_step(
+                record_step_outputs(
                     self.alloc,
                     node,
                     many,
@@ -482,7 +482,7 @@ impl<O: Object> World<O> {
     /// Stops a node.
     ///
     /// If it isn't in the group, only the list of events changes.
-    fn stop(&mut self, node: Proc, event: &Event<O::Alloc>) -> Result<(), Fault>
+    fn stop_and_record(&mut self, node: Proc, event: &Event<O::Alloc>) -> Result<(), Fault>
         requires { event.now ≡ Stop node }
         ensures ok { OnOk result (IsEventOutcome O.sequential event.now self.old self.new) }
         ensures err { OnErr result (self.new ≡ self.old) }
@@ -491,7 +491,7 @@ impl<O: Object> World<O> {
     {
         let place = usize::from(node.number()) - 1;
         if place >= self.nodes.len() {
-            return self.idle(event);
+            return self.record_event_only(event);
         }
         self.run_record.events.reserve(1)?;
         stop_node(&mut self.nodes[place], &mut self.buffers.outs);
@@ -502,7 +502,7 @@ impl<O: Object> World<O> {
     /// Submits a call at a node.
     ///
     /// If the node isn't in the group, only the list of events changes.
-    fn issue(
+    fn submit_and_record(
         &mut self,
         node: Proc,
         call: &Call<O::Alloc>,
@@ -517,19 +517,19 @@ impl<O: Object> World<O> {
     {
         let place = usize::from(node.number()) - 1;
         if place >= self.nodes.len() {
-            return self.idle(event);
+            return self.record_event_only(event);
         }
         self.run_record.make_room()?;
         self.spares[place].make_room()?;
         let copies = issue_copies(event, call)?;
-        match self.nodes[place].submit_on(call) {
-            Ok(_) => keep_issue(
+        match self.nodes[place].submit_borrowed(call) {
+            Ok(_) => record_submit(
                 &mut self.run_record.events,
                 &mut self.run_record.history,
                 &mut self.spares[place],
                 copies,
             ),
-            Err(fault) => refuse(
+            Err(fault) => record_refusal(
                 &mut self.run_record.events,
                 &mut self.run_record.told,
                 node,
@@ -556,7 +556,7 @@ struct IssueCopies<A: Allocator + Copy> {
 /// Does not allocate.
 fn new_buffers<A: Allocator + Copy>(alloc: A) -> StepBuffers<A> {
     StepBuffers {
-        place: None,
+        frame_buffer: None,
         outs: Outs::new(alloc),
     }
 }
@@ -621,8 +621,8 @@ fn new_spares<A: Allocator + Copy>(alloc: A, count: u8) -> Result<Vec<SpareCalls
 /// It is for a timeout, and for a frame that was sent to that node.
 ///
 /// Errors: only `Memory`, if an allocation fails.
-fn read_delivered<A: Allocator + Copy>(
-    frames: &Frames<A>,
+fn decode_delivered_frame<A: Allocator + Copy>(
+    frames: &FrameStore<A>,
     alloc: A,
     event: &Event<A>,
     place: &mut Option<Frame<A>>,
@@ -632,7 +632,7 @@ fn read_delivered<A: Allocator + Copy>(
     ensures refused { IfErr result (λ fault. fault ≡ Memory) }
 {
     match event {
-        Event::Deliver(node, number) => frames.read_to(alloc, *node, *number, place),
+        Event::Deliver(node, number) => frames.decode_if_sent_to(alloc, *node, *number, place),
         Event::Timeout(_, _) => Ok(true),
         Event::Issue(_, _) | Event::Noise(_, _) | Event::Stop(_) => Ok(false),
     }
@@ -683,7 +683,7 @@ fn issue_copies<A: Allocator + Copy>(
     ensures event { IfOk result (λ copies. copies.event ≡ event.now) }
     ensures call { IfOk result (λ copies. copies.call ≡ call.now) }
     ensures spare { IfOk result (λ copies. copies.spare ≡ call.now) }
-    ensures keeps { IfOk result (λ _. EventFits event.now → EventKeeps event.now) }
+    ensures keeps { IfOk result (λ _. EventFits event.now → IsEventCallWithinLimits event.now) }
     ensures refused { IfErr result (λ fault. fault ≡ Memory) }
 {
     let event = copy_event(event)?;
@@ -695,7 +695,7 @@ fn issue_copies<A: Allocator + Copy>(
 /// Records a submit that the node took.
 ///
 /// There must be room.
-fn keep_issue<A: Allocator + Copy>(
+fn record_submit<A: Allocator + Copy>(
     events: &mut Vec<Event<A>, A>,
     history: &mut Vec<Item<A>, A>,
     spares: &mut SpareCalls<A>,
@@ -710,7 +710,7 @@ fn keep_issue<A: Allocator + Copy>(
 {
     events.push_reserved(copies.event);
     history.push_reserved(Item::Issue(copies.call));
-    spares.add(copies.spare);
+    spares.append_copy(copies.spare);
 }
 
 /// Stops a node, without outputs.
@@ -726,7 +726,7 @@ fn stop_node<O: Object>(node: &mut Node<O>, outs: &mut Outs<O::Alloc>)
 /// Records a refused submit, and its event unless the refusal is `Memory`.
 ///
 /// There must be room.
-fn refuse<A: Allocator + Copy>(
+fn record_refusal<A: Allocator + Copy>(
     events: &mut Vec<Event<A>, A>,
     told: &mut Vec<Told<A>, A>,
     node: Proc,
@@ -768,7 +768,7 @@ fn event_or_stop<A: Allocator + Copy>(fault: Fault, event: Event<A>, node: Proc)
 ///
 /// `committed` is the node's committed length after the step. The frames must be within the limits of their format, and
 /// there must be room.
-fn keep_step<A: Allocator + Copy>(
+fn record_step_outputs<A: Allocator + Copy>(
     alloc: A,
     node: Proc,
     committed: u64,
@@ -784,13 +784,13 @@ fn keep_step<A: Allocator + Copy>(
     requires longest_room { 0 < run_record.old.longest.places }
     ensures events { run_record.new.events ≡ run_record.old.events }
     ensures frames { run_record.new.frames.frames ≡ run_record.old.frames.frames ++ carried_frames node outs.old.sends.items }
-    ensures told { run_record.new.told.items ≡ run_record.old.told.items ++ told_by node outs.old.answers.items }
-    ensures history { run_record.new.history.items ≡ run_record.old.history.items ++ items_of outs.old.answers.items }
+    ensures told { run_record.new.told.items ≡ run_record.old.told.items ++ reports_of_answers node outs.old.answers.items }
+    ensures history { run_record.new.history.items ≡ run_record.old.history.items ++ reply_items_of outs.old.answers.items }
     ensures spares { spares.new.calls ≡ copies_after_answers spares.old.calls outs.old.answers.items }
     ensures longest { let calls = run_record.old.longest.calls in
         run_record.new.longest.calls ≡ calls ++ calls_past (length calls) committed outs.old.committed.items }
 {
-    keep_all(&mut run_record.frames, node, &outs.sends);
+    record_frames(&mut run_record.frames, node, &outs.sends);
     record_answers(
         alloc,
         &mut run_record.told,
@@ -801,18 +801,22 @@ fn keep_step<A: Allocator + Copy>(
     );
     run_record
         .longest
-        .add(alloc, committed, &mut outs.committed);
+        .append_newly_committed(alloc, committed, &mut outs.committed);
 }
 
 /// Records the frames that a node sent.
 ///
 /// They must be within the limits of their format, and there must be room.
-fn keep_all<A: Allocator + Copy>(frames: &mut Frames<A>, from: Proc, sends: &[OutgoingFrame<A>])
+fn record_frames<A: Allocator + Copy>(
+    frames: &mut FrameStore<A>,
+    from: Proc,
+    sends: &[OutgoingFrame<A>],
+)
     requires fit { AllByRecursion (λ (s : OneSent A). FrameFits s.frame) sends.now }
     requires room { HasRoom (length sends.now) frames.old }
     ensures { frames.new.frames ≡ frames.old.frames ++ carried_frames from sends.now }
 {
     for sent in sends {
-        frames.keep(from, sent.to, &sent.frame);
+        frames.append_frame(from, sent.to, &sent.frame);
     }
 }

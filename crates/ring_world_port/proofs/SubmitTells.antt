@@ -11,9 +11,9 @@ use Rattle.ring_payload.specs.declared.call.Call.{Call}
 use Rattle.ring_node_spec.specs.Nodes.{Node, node_pending, is_stopped}
 use Rattle.ring_node_spec.specs.Stepping.{submit_fault}
 use Rattle.ring_node_spec.specs.declared.event.Event.TheVariants.{Issue}
-use Rattle.ring_node_spec.specs.declared.told.Told.{Told}
-use Rattle.ring_node_spec.specs.declared.told.Told.TheVariants.{Refused}
-use Rattle.ring_node_spec.specs.Worlds.{World, issued_if, issued_or, is_node}
+use Rattle.ring_node_spec.specs.declared.client_report.Told.{Told}
+use Rattle.ring_node_spec.specs.declared.client_report.Told.TheVariants.{Refused}
+use Rattle.ring_node_spec.specs.Worlds.{World, world_after_submit_if_member, world_after_submit, is_node}
 use Rattle.ring_world.specs.WorldView.{WorldView, IsEventOutcome, world_of, told_by_event}
 
 -- the refusals of a submit at a node
@@ -36,13 +36,13 @@ abbrev Behind : {A : Type 0} → ℕ → Call A → List (Told A) → Type 0
 Behind i c more = (more ≡ []) ⊎ ((fault : Fault) × IsOne fault × (more ≡ Refused i c (fault_number fault) ∷ []))
 
 behind_refusal : {A : Type 0} (w : World A) (i : ℕ) (c : Call A) (x : Option Fault) (fault : Fault) → IsOne fault → x ≡ Some fault
-    → Behind i c (drop (length w.told) (issued_or x w i c).told)
+    → Behind i c (drop (length w.told) (world_after_submit x w i c).told)
 behind_refusal w i c x fault one e = inr (fault, one, rw e (drop-append_seam w.told (Refused i c (fault_number fault) ∷ [])))
 
-behind_issue : {A : Type 0} (w : World A) (i : ℕ) (c : Call A) (x : Option Fault) → x ≡ None → Behind i c (drop (length w.told) (issued_or x w i c).told)
+behind_issue : {A : Type 0} (w : World A) (i : ℕ) (c : Call A) (x : Option Fault) → x ≡ None → Behind i c (drop (length w.told) (world_after_submit x w i c).told)
 behind_issue w i c x e = inl (rw e (drop-length w.told))
 
-behind_known : {A : Type 0} (known : Bool) (w : World A) (i : ℕ) (c : Call A) → Behind i c (drop (length w.told) (issued_if known w i c).told)
+behind_known : {A : Type 0} (known : Bool) (w : World A) (i : ℕ) (c : Call A) → Behind i c (drop (length w.told) (world_after_submit_if_member known w i c).told)
 behind_known false w i c = inl (drop-length w.told)
 behind_known true w i c =
     elim (fault_cases (w.nodes i)) [

@@ -9,8 +9,8 @@ use Rattle.ring_base.proofs.ListPlaces.{get-last}
 use Rattle.ring_object.specs.Operations.{Sequential}
 use Rattle.ring_payload.specs.declared.call.Call.{Call}
 use Rattle.ring_node_spec.specs.declared.event.Event.TheVariants.{Issue}
-use Rattle.ring_node_spec.specs.declared.told.Told.{Told}
-use Rattle.ring_node_spec.specs.declared.told.Told.TheVariants.{Refused}
+use Rattle.ring_node_spec.specs.declared.client_report.Told.{Told}
+use Rattle.ring_node_spec.specs.declared.client_report.Told.TheVariants.{Refused}
 use Rattle.ring_world_port.specs.Network.{NetworkView, IsIssuable, IsIssued, IsNotIssued, IsNotAsked, refusal_in, fault_of}
 use Rattle.ring_world.specs.Pumping.{HasRunEvent}
 use Rattle.ring_world_port.proofs.SubmitTells.{IsOne, submit_tells}

@@ -4,12 +4,12 @@ use Rattle.std.specs.Prelude.{◌≡◌, ℕ, ◌/◌, ◌%◌, ◌<◌, ◌≤�
 use Rattle.std.specs.Prelude.{Bool, true, false, List, [], ◌∷◌, ◌++◌, length, drop, Option, Some, None}
 use Rattle.ring_payload.specs.Limits.{max_operation}
 use Rattle.ring_base.specs.Fault.{fault_number}
-use Rattle.ring_base.specs.Numbers.{following}
+use Rattle.ring_base.specs.Numbers.{saturating_successor}
 use Rattle.ring_base.specs.Processors.{has, size, at}
 use Rattle.ring_base.specs.declared.fault.Fault.{Fault}
 use Rattle.ring_base.specs.declared.fault.Fault.TheVariants.{NotMember, PendingFull, OpTooLong, NumberGap, Stopped as StoppedFault, Memory, NoAnswer}
-use Rattle.ring_base.specs.declared.kind.Kind.{Kind}
-use Rattle.ring_base.specs.declared.kind.Kind.TheVariants.{Join, Consensus, Loss}
+use Rattle.ring_base.specs.declared.timeout_kind.Kind.{Kind}
+use Rattle.ring_base.specs.declared.timeout_kind.Kind.TheVariants.{Join, Consensus, Loss}
 use Rattle.ring_base.specs.declared.state.State.{State}
 use Rattle.ring_base.specs.declared.state.State.TheVariants.{Gather, Commit, Recovery, Operational, Stopped}
 use Rattle.ring_client.specs.Asking.{IsSubmittable}
@@ -17,8 +17,8 @@ use Rattle.ring_object.specs.Operations.{Sequential}
 use Rattle.ring_payload.specs.declared.call.Call.{Call}
 use Rattle.ring_node_spec.specs.declared.event.Event.{Event}
 use Rattle.ring_node_spec.specs.declared.event.Event.TheVariants.{Issue, Deliver, Timeout}
-use Rattle.ring_node_spec.specs.declared.told.Told.{Told}
-use Rattle.ring_node_spec.specs.declared.told.Told.TheVariants.{Answer, Refused}
+use Rattle.ring_node_spec.specs.declared.client_report.Told.{Told}
+use Rattle.ring_node_spec.specs.declared.client_report.Told.TheVariants.{Answer, Refused}
 use Rattle.ring_node_spec.specs.Worlds.{World}
 use Rattle.ring_world.specs.WorldView.{world_of}
 use Rattle.ring_world.specs.declared.open_copies.OpenCopy.{OpenCopy}
@@ -101,7 +101,7 @@ module _ {O : Type 0} (object : Sequential O) where
   pub record HasTimedOut {A : Type 0} (n m : NetworkView A) : Type 0 where
     pub none : n.pump.open_copies ≡ []
     pub comes : HappensIf (timeout_in (world_of object n.pump.world_view) n.group n.timeouts) n.pump m.pump
-    pub timeouts : m.timeouts ≡ following n.timeouts
+    pub timeouts : m.timeouts ≡ saturating_successor n.timeouts
 
   -- the turn that was due was taken
   pub record HasTurned {A : Type 0} (n m : NetworkView A) : Type 0 where

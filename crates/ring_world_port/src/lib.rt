@@ -7,9 +7,9 @@
 //! Rules: Clients 8
 #![tactic(auto)]
 
-mod answers;
 mod network;
 mod port;
+mod submitted_call;
 
 pub use network::{Network, WorldTicket};
 pub use port::{Shared, WorldPort};

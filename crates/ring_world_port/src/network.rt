@@ -4,7 +4,7 @@
 //! Formats: Pump
 
 ghost use Rattle.std.specs.Prelude.{◌≡◌, ◌<◌, ◌≤◌, ◌⊎◌, drop, Some, None, IfOk, IfErr, IfSome, IfNone, OnOk, OnErr, length, slice_get};
-ghost use Rattle.ring_base.specs.Numbers.{following};
+ghost use Rattle.ring_base.specs.Numbers.{saturating_successor};
 ghost use Rattle.ring_base.specs.Processors.{everybody, intersection};
 ghost use Rattle.ring_base.specs.declared.fault.Fault.TheVariants.{Memory};
 ghost use Rattle.ring_client.specs.Asking.{asked_after_submit, IsClientVisible};
@@ -12,11 +12,11 @@ ghost use Rattle.ring_node_spec.specs.WorldLimits.{EventFits};
 ghost use Rattle.ring_world.specs.OpenCopies.{frames_of, all_copies};
 ghost use Rattle.ring_world.specs.Pumping.{HasRunEvent, IsUnchanged};
 ghost use Rattle.ring_world.specs.WorldView.{world_of};
-ghost use Rattle.ring_world_port.specs.Answers.{answer_in, submitted_call_of, IsToldSince, HasTold};
+ghost use Rattle.ring_world_port.specs.Answers.{first_answer_in, submitted_call_of, IsToldSince, HasTold};
 ghost use Rattle.ring_world_port.specs.Network.{IsNetworkUnchanged, IsIssuable, IsIssued, IsNotIssued, HappensIf, HasTurned, HasLostTurn};
 ghost use Rattle.ring_world_port.specs.Network.{fault_of, hears, delivery_event, timeout_kind, timeout_in, refusal_in};
 
-use crate::answers::SubmittedCall;
+use crate::submitted_call::SubmittedCall;
 use ring_base::{Fault, Kind, Proc, ProcSet, State};
 use ring_client::Op;
 use ring_node_spec::{Event, Told};
@@ -72,7 +72,7 @@ pub struct WorldTicket {
     /// The length of the world's `told` list when the call was submitted.
     submit_index: usize,
     /// The index in `told` at which the next search begins.
-    scanned: Cell<usize>,
+    next_search_index: Cell<usize>,
 }
 
 impl Model for WorldTicket {
@@ -175,8 +175,8 @@ impl<O: Object> Network<O> {
         ensures refused { IfErr result (λ fault. fault ≡ Memory) }
     {
         match self.pump.close_first_copy() {
-            Some(pair) => self.deliver(pair),
-            None => self.time_out(),
+            Some(open_copy) => self.deliver_or_lose(open_copy),
+            None => self.run_next_timeout(),
         }
     }
 
@@ -227,7 +227,7 @@ impl<O: Object> Network<O> {
                 op: Op::from_slice(&op[..op.len().min(MAX_OPERATION)]),
             },
             submit_index,
-            scanned: Cell::new(submit_index),
+            next_search_index: Cell::new(submit_index),
         })
     }
 
@@ -245,10 +245,10 @@ impl<O: Object> Network<O> {
         ensures turn { IfNone result (HasTurned O.sequential self.old self.new ⊎ HasLostTurn self.old self.new) }
     {
         let told = self.world().told().len();
-        let scanned = ticket.scanned.get().max(ticket.submit_index);
-        let answer = self.poll(&ticket.call, scanned);
+        let scanned = ticket.next_search_index.get().max(ticket.submit_index);
+        let answer = self.answer_or_turn(&ticket.call, scanned);
         if answer.is_none() {
-            ticket.scanned.set(told);
+            ticket.next_search_index.set(told);
         }
         answer
     }
@@ -256,13 +256,13 @@ impl<O: Object> Network<O> {
     /// Returns the first answer to the call in `told` from index `scanned` on.
     ///
     /// If there is none, performs a turn; if an allocation fails in the turn, that is ignored.
-    fn poll(&mut self, call: &SubmittedCall, scanned: usize) -> Option<Answer>
-        ensures answer { result ≡ answer_in call.now (drop scanned self.old.pump.world_view.told) }
+    fn answer_or_turn(&mut self, call: &SubmittedCall, scanned: usize) -> Option<Answer>
+        ensures answer { result ≡ first_answer_in call.now (drop scanned self.old.pump.world_view.told) }
         ensures told { IfSome result IsClientVisible }
         ensures same { IfSome result (λ _. self.new ≡ self.old) }
         ensures turn { IfNone result (HasTurned O.sequential self.old self.new ⊎ HasLostTurn self.old self.new) }
     {
-        let answer = call.answer_in(told_after(self.world().told(), scanned));
+        let answer = call.first_answer_in(reports_from(self.world().told(), scanned));
         if answer.is_none() {
             let _ = self.turn();
         }
@@ -274,21 +274,21 @@ impl<O: Object> Network<O> {
     /// Delivers the copy to its receiver, or loses it.
     ///
     /// Errors: those of `run_event`.
-    fn deliver(&mut self, pair: OpenCopy) -> Result<(), Fault>
-        ensures ok { OnOk result (HappensIf O.sequential (delivery_event (hears self.old.group pair.sender pair.receiver) pair) self.old.pump self.new.pump) }
+    fn deliver_or_lose(&mut self, open_copy: OpenCopy) -> Result<(), Fault>
+        ensures ok { OnOk result (HappensIf O.sequential (delivery_event (hears self.old.group open_copy.sender open_copy.receiver) open_copy) self.old.pump self.new.pump) }
         ensures err { OnErr result (IsUnchanged self.old.pump self.new.pump) }
         ensures group { self.new.group ≡ self.old.group }
         ensures timeouts { self.new.timeouts ≡ self.old.timeouts }
         ensures refused { IfErr result (λ fault. fault ≡ Memory) }
     {
-        if !self.hears(pair.sender, pair.receiver) {
+        if !self.are_in_group(open_copy.sender, open_copy.receiver) {
             return Ok(());
         }
-        self.run_event(Event::Deliver(pair.receiver, pair.frame))
+        self.run_event(Event::Deliver(open_copy.receiver, open_copy.frame))
     }
 
     /// Returns whether the receiver hears the sender: both are in the group.
-    fn hears(&self, sender: Proc, receiver: Proc) -> bool
+    fn are_in_group(&self, sender: Proc, receiver: Proc) -> bool
         ensures { result ≡ hears self.now.group sender receiver }
     {
         self.group.contains(sender) && self.group.contains(receiver)
@@ -297,15 +297,15 @@ impl<O: Object> Network<O> {
     /// Runs the next timeout and counts it.
     ///
     /// Errors: those of `run_event`.
-    fn time_out(&mut self) -> Result<(), Fault>
+    fn run_next_timeout(&mut self) -> Result<(), Fault>
         ensures ok { OnOk result (HappensIf O.sequential (timeout_in (world_of O.sequential self.old.pump.world_view) self.old.group self.old.timeouts)
             self.old.pump self.new.pump) }
-        ensures timeouts { OnOk result (self.new.timeouts ≡ following self.old.timeouts) }
+        ensures timeouts { OnOk result (self.new.timeouts ≡ saturating_successor self.old.timeouts) }
         ensures err { OnErr result (IsNetworkUnchanged self.old self.new) }
         ensures group { self.new.group ≡ self.old.group }
         ensures refused { IfErr result (λ fault. fault ≡ Memory) }
     {
-        self.time_out_member()?;
+        self.run_timeout_of_member()?;
         self.timeouts = self.timeouts.saturating_add(1);
         Ok(())
     }
@@ -313,7 +313,7 @@ impl<O: Object> Network<O> {
     /// Runs the timeout of the group's member whose turn it is, if the group has a member.
     ///
     /// Errors: those of `run_event`.
-    fn time_out_member(&mut self) -> Result<(), Fault>
+    fn run_timeout_of_member(&mut self) -> Result<(), Fault>
         ensures ok { OnOk result (HappensIf O.sequential (timeout_in (world_of O.sequential self.old.pump.world_view) self.old.group self.old.timeouts)
             self.old.pump self.new.pump) }
         ensures err { OnErr result (IsUnchanged self.old.pump self.new.pump) }
@@ -349,7 +349,7 @@ fn timeout_kind(state: State, round: u64) -> Kind
 }
 
 /// Returns the fault with this number, among those with which a node refuses a submit.
-fn refusal_of(number: u8) -> Fault
+fn fault_of_submit_refusal(number: u8) -> Fault
     ensures { result ≡ fault_of number }
 {
     match number {
@@ -365,13 +365,13 @@ fn refusal_at<A: Allocator + Copy>(told: &[Told<A>], place: usize) -> Result<(),
     ensures refused { IfErr result (λ fault. refusal_in (slice_get told.now place) ≡ Some fault) }
 {
     match told.get(place) {
-        Some(Told::Refused(_, _, number)) => Err(refusal_of(*number)),
+        Some(Told::Refused(_, _, number)) => Err(fault_of_submit_refusal(*number)),
         _ => Ok(()),
     }
 }
 
 /// Returns the list without its first `many` reports.
-fn told_after<A: Allocator + Copy>(told: &[Told<A>], many: usize) -> &[Told<A>]
+fn reports_from<A: Allocator + Copy>(told: &[Told<A>], many: usize) -> &[Told<A>]
     ensures { result.now ≡ drop many told.now }
 {
     &told[many.min(told.len())..]

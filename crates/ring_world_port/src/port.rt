@@ -91,7 +91,7 @@ impl<O: Object> Port for WorldPort<O> {
 
     type Ticket = WorldTicket;
 
-    ghost asked_of = { λ port. port.asked };
+    ghost trace_options_of = { λ port. port.asked };
 
     /// Submits a copy of the call at the port's node, records it in `asked`, and returns the ticket to poll for the
     /// answer.

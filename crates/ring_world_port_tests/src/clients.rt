@@ -164,7 +164,10 @@ impl ClientStory {
         match self {
             ClientStory::NobodyHears => Ok((ProcSet::new(), 300)),
             ClientStory::FirstStops => Ok((everybody()?, 400)),
-            ClientStory::FirstIsCutOff => Ok((everybody()?.less(ProcSet::only(Proc::new(1))), 200)),
+            ClientStory::FirstIsCutOff => Ok((
+                everybody()?.without_members(ProcSet::singleton(Proc::new(1))),
+                200,
+            )),
         }
     }
 }

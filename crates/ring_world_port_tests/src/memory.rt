@@ -99,7 +99,7 @@ fn is_answered_past(
 ) -> (Result<bool, Fault>, bool, u64) {
     let heap = RefusingHeap::new(alloc, passed);
     let is_answered = is_answered_once::<Counters<&RefusingHeap>>(&heap, ample);
-    (is_answered, heap.has_refused(), heap.requests())
+    (is_answered, heap.has_refused(), heap.request_count())
 }
 
 /// The number of parts in which the requests are tried, so that each test is short.

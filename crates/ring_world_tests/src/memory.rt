@@ -142,7 +142,7 @@ fn refusals<O: Object>(heap: O::Alloc, ample: O::Alloc) -> Result<u64, Fault> {
 /// Adapts the result to `refuse_in_turn`: the run is right where it counts one refusal if a request was refused, else
 /// none.
 fn told(heap: &RefusingHeap, refusals: Result<u64, Fault>) -> Result<(), AllocError> {
-    heap.answer(refusals == Ok(u64::from(heap.has_refused())))
+    heap.expected_result(refusals == Ok(u64::from(heap.has_refused())))
 }
 
 #[test]

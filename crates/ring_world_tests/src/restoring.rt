@@ -57,7 +57,7 @@ fn formed<O: Object>(group: &mut MemberGroup<O>) -> Result<(), Fault> {
 
 /// Cuts node 3 off, and does 290 calls at nodes 1 and 2.
 fn parted<O: Object>(group: &mut MemberGroup<O>) -> Result<(), Fault> {
-    group.cut(ProcSet::only(Proc::new(3)));
+    group.cut(ProcSet::singleton(Proc::new(3)));
     group.time(1, Kind::Loss)?;
     group.pump(200)?;
     group.time(1, Kind::Consensus)?;
@@ -121,10 +121,10 @@ fn restore<O: Object>(group: &mut MemberGroup<O>, heap: &RefusingHeap) -> Result
     parted(group)?;
     met(group)?;
     for _ in 0..600 {
-        let before = heap.requests();
+        let before = heap.request_count();
         let answer = group.pump(1);
         if answer.is_err() || trimmed(group) > 0 {
-            let after = heap.requests();
+            let after = heap.request_count();
             let is_right = if answer.is_ok() {
                 is_restored(group)?
             } else {

@@ -18,8 +18,8 @@ use denote.Struct.Struct.{within}
 use denote.Struct.Owning.{shape}
 use Rattle.std.specs.declared.alloc.Global.{Global}
 use Rattle.std.specs.contracts.impls.GlobalAllocator.TheImpl.{ghosts}
-use Rattle.totem_c.specs.declared.contents.HandleContents.{HandleContents}
-use Rattle.totem_c.specs.contracts.contents.HandleContents as contents
+use Rattle.totem_c.specs.declared.handle_contents.HandleContents.{HandleContents}
+use Rattle.totem_c.specs.contracts.handle_contents.HandleContents as contents
 use Rattle.totem_c.specs.Handles.{handle_owns, is_boxed_at}
 use Rattle.totem_c.specs.contracts.c_handle.Handle as c_handle
 use Rattle.totem_c.proofs.Loosed.{both}

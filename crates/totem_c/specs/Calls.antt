@@ -7,7 +7,7 @@ use Rattle.ring_timers.specs.declared.periods.Periods.{Periods}
 use Rattle.ring_record_node.specs.NodeOutputs.{record_node_opening}
 use Rattle.ring_record_node.specs.RecordNodes.{IsOpeningRefused}
 use Rattle.ring_record_node.specs.BufferedNodeView.{IsRecordBuffered, IsRecordRefused}
-use Rattle.totem_c.specs.declared.contents.HandleContents.{HandleContents}
+use Rattle.totem_c.specs.declared.handle_contents.HandleContents.{HandleContents}
 use Rattle.totem_c.specs.declared.status.Status.{Status}
 use Rattle.totem_c.specs.declared.status.Status.TheVariants.{Done, Refused, Misused}
 

@@ -5,8 +5,8 @@ use denote.RawPtr.{Ptr}
 use Rattle.std.specs.Box.Ownership.{box_owns}
 use Rattle.std.specs.declared.alloc.Global.{Global}
 use Rattle.std.specs.contracts.impls.GlobalAllocator.TheImpl.{ghosts}
-use Rattle.totem_c.specs.declared.contents.HandleContents.{HandleContents}
-use Rattle.totem_c.specs.contracts.contents.HandleContents as contents
+use Rattle.totem_c.specs.declared.handle_contents.HandleContents.{HandleContents}
+use Rattle.totem_c.specs.contracts.handle_contents.HandleContents as contents
 
 -- A node is boxed at this address, in a block of the heap's allocator.
 abbrev pub is_boxed_at : Ptr → HandleContents → Global → Fml

@@ -4,10 +4,10 @@
 
 ghost use Rattle.std.specs.Prelude.{◌≡◌, None, Some, MatchOption};
 ghost use Rattle.std.specs.declared.option.Option.{Option as Maybe};
-ghost use Rattle.totem_c.specs.declared.contents.HandleContents.{HandleContents};
+ghost use Rattle.totem_c.specs.declared.handle_contents.HandleContents.{HandleContents};
 ghost use Rattle.totem_c.specs.Handles.{handle_owns};
 
-use crate::contents::HandleContents;
+use crate::handle_contents::HandleContents;
 use crate::raw_box::RawBox;
 use std::alloc::Global;
 use std::marker::Model;
@@ -35,7 +35,7 @@ impl Handle {
     /// Makes an empty handle.
     ///
     /// Its address is null.
-    pub(crate) fn none() -> Handle
+    pub(crate) fn empty_handle() -> Handle
         ensures { result.value ≡ None }
     {
         Handle {
@@ -45,7 +45,7 @@ impl Handle {
     }
 
     /// Makes the handle of a node, which the handle then owns.
-    pub(crate) fn of(contents: RawBox<HandleContents, Global>) -> Handle
+    pub(crate) fn from_contents(contents: RawBox<HandleContents, Global>) -> Handle
         ensures { result.value ≡ Some contents.value }
     {
         let RawBox { at, alloc: _ } = contents;

@@ -7,10 +7,10 @@
 #![tactic(auto)]
 
 mod c_handle;
-mod contents;
+mod handle_contents;
+mod handle_functions;
 mod raw_box;
 mod status;
-mod work;
 
 ghost use Rattle.std.specs.Prelude.{◌≡◌, None};
 ghost use Rattle.ring_timers.specs.Periods.{default_periods};
@@ -38,7 +38,7 @@ use std::alloc::Global;
 pub extern "C" fn totem_c_open(alloc: Global, handle: &mut Handle, me: u32, votes: &[u8]) -> u8
     ensures { (status : Told) × (result ≡ status_number status) × Opens handle.old.value me votes.now default_periods status handle.new.value }
 {
-    work::open(alloc, handle, me, votes, Periods::default()).number()
+    handle_functions::open(alloc, handle, me, votes, Periods::default()).number()
 }
 
 /// Opens processor `me` of a group with these votes, as `totem_c_open` does, with these periods of its timeouts, in
@@ -63,7 +63,7 @@ pub extern "C" fn totem_c_open_timed(
         × OpensTimed handle.old.value me votes.now join retransmit consensus loss status handle.new.value }
 {
     match Periods::new(join, retransmit, consensus, loss) {
-        Some(periods) => work::open(alloc, handle, me, votes, periods).number(),
+        Some(periods) => handle_functions::open(alloc, handle, me, votes, periods).number(),
         None => Status::Misused.number(),
     }
 }
@@ -84,7 +84,7 @@ pub extern "C" fn totem_c_take(alloc: Global, handle: &mut Handle, kind: u8, byt
     ensures { let object = ⟦<StandardObjects<Global> as Object>⟧ in
         (status : Told) × (result ≡ status_number status) × Takes object.sequential handle.old.value kind bytes.now status handle.new.value }
 {
-    work::take(alloc, handle, kind, bytes).number()
+    handle_functions::take(alloc, handle, kind, bytes).number()
 }
 
 /// Moves the first unread bytes of the handle's node to the front of `into`, and returns their number.
@@ -97,7 +97,7 @@ pub extern "C" fn totem_c_take(alloc: Global, handle: &mut Handle, kind: u8, byt
 pub extern "C" fn totem_c_read(alloc: Global, handle: &mut Handle, into: &mut [u8]) -> usize
     ensures { Reads handle.old.value into.old into.new result handle.new.value }
 {
-    work::read(alloc, handle, into)
+    handle_functions::read(alloc, handle, into)
 }
 
 /// Frees the handle's node, with its unread bytes, and leaves the handle empty.
@@ -109,5 +109,5 @@ pub extern "C" fn totem_c_read(alloc: Global, handle: &mut Handle, into: &mut [u
 pub extern "C" fn totem_c_close(alloc: Global, handle: &mut Handle)
     ensures { handle.new.value ≡ None }
 {
-    work::close(alloc, handle);
+    handle_functions::close(alloc, handle);
 }

@@ -23,7 +23,7 @@ impl<T: Drop, A: Allocator> RawBox<T, A> {
     /// Takes a box apart into address and allocator.
     ///
     /// The value stays where it is and isn't dropped.
-    pub(crate) fn of(value: Box<T, A>) -> RawBox<T, A>
+    pub(crate) fn take_apart_box(value: Box<T, A>) -> RawBox<T, A>
         ensures { result.value ≡ value.value }
     {
         let (at, alloc) = Box::into_raw_with_allocator(value);

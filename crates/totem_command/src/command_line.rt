@@ -2,7 +2,7 @@
 //!
 //! Formats: The command line
 
-use crate::forms::command_of;
+use crate::command_forms::command_of;
 use crate::periods::periods_of;
 use crate::seeds::seeds_of;
 use crate::traces::{TraceArguments, trace_arguments_in};
@@ -127,25 +127,25 @@ pub(crate) fn task_of<'a>(
     words: &'a io::Result<Vec<String>>,
 ) -> Result<CommandTask<'a>, Error> {
     match command_of(alloc) {
-        Ok(mut command) => task_for(alloc, &mut command, words),
+        Ok(mut command) => parse_with_command(alloc, &mut command, words),
         Err(error) => Err(Error::from(error)),
     }
 }
 
 /// Parses the words with the parser `command`.
-fn task_for<'a>(
+fn parse_with_command<'a>(
     alloc: Global,
     command: &mut Command<'a>,
     words: &'a io::Result<Vec<String>>,
 ) -> Result<CommandTask<'a>, Error> {
     match words {
-        Ok(words) => task_among(alloc, command, words.as_slice()),
-        Err(error) => Err(unreadable(command, error)),
+        Ok(words) => parse_readable_words(alloc, command, words.as_slice()),
+        Err(error) => Err(unreadable_words_error(command, error)),
     }
 }
 
 /// Parses words that could be read.
-fn task_among<'a>(
+fn parse_readable_words<'a>(
     alloc: Global,
     command: &mut Command<'a>,
     words: &'a [String],
@@ -161,7 +161,7 @@ fn task_among<'a>(
 }
 
 /// Returns the message for words that couldn't be read.
-fn unreadable(command: &mut Command<'_>, error: &io::Error) -> Error {
+fn unreadable_words_error(command: &mut Command<'_>, error: &io::Error) -> Error {
     if error.kind() == io::ErrorKind::OutOfMemory {
         return Error::from(AllocError);
     }
@@ -179,68 +179,74 @@ fn parser_error(command: &mut Command<'_>, wrong: &str) -> Error {
 /// Returns the task of the parsed words, or the message for what is wrong with them.
 fn task_of_matches<'a>(matches: &ArgMatches<'a>) -> Result<CommandTask<'a>, &'static str> {
     match matches.subcommand() {
-        Some((name, of)) => task_in(name, of),
+        Some((name, matches)) => task_of_command(name, matches),
         None => Err(NO_COMMAND),
     }
 }
 
 /// Returns the task of the command `name` with these words, or the message for what is wrong with them.
-fn task_in<'a>(name: &str, of: &ArgMatches<'a>) -> Result<CommandTask<'a>, &'static str> {
+fn task_of_command<'a>(
+    name: &str,
+    matches: &ArgMatches<'a>,
+) -> Result<CommandTask<'a>, &'static str> {
     match name {
-        "gen" => generate_in(of),
-        "explore" => explore_in(of),
-        "node" => node_in(of),
-        "live" => live_in(of).ok_or(NO_COMMAND),
-        _ => file_in(name, of).ok_or(NO_COMMAND),
+        "gen" => generate_in(matches),
+        "explore" => explore_in(matches),
+        "node" => node_in(matches),
+        "live" => live_in(matches).ok_or(NO_COMMAND),
+        _ => file_in(name, matches).ok_or(NO_COMMAND),
     }
 }
 
 /// Returns the task of a command that reads a file.
-fn file_in<'a>(name: &str, of: &ArgMatches<'a>) -> Option<CommandTask<'a>> {
-    let file = of.get_str("FILE")?;
+fn file_in<'a>(name: &str, matches: &ArgMatches<'a>) -> Option<CommandTask<'a>> {
+    let file = matches.get_str("FILE")?;
     match name {
         "frames" => Some(CommandTask::Frames {
             file,
-            is_explained: of.get_flag("explain"),
+            is_explained: matches.get_flag("explain"),
         }),
-        "script" if of.get_flag("check") => Some(script_in(file, RunMode::Checked, of)),
-        "script" => Some(script_in(file, RunMode::Plain, of)),
-        "sweep" => Some(script_in(file, sweep_in(of), of)),
-        "trace" => Some(CommandTask::Trace(trace_arguments_in(file, of))),
+        "script" if matches.get_flag("check") => Some(script_in(file, RunMode::Checked, matches)),
+        "script" => Some(script_in(file, RunMode::Plain, matches)),
+        "sweep" => Some(script_in(file, sweep_in(matches), matches)),
+        "trace" => Some(CommandTask::Trace(trace_arguments_in(file, matches))),
         _ => None,
     }
 }
 
 /// Returns the task of a command that runs a script in this mode.
-fn script_in<'a>(file: &'a str, mode: RunMode, of: &ArgMatches<'a>) -> CommandTask<'a> {
+fn script_in<'a>(file: &'a str, mode: RunMode, matches: &ArgMatches<'a>) -> CommandTask<'a> {
     CommandTask::Script(ScriptArguments {
         file,
         mode,
-        is_explained: of.get_flag("explain"),
+        is_explained: matches.get_flag("explain"),
     })
 }
 
 /// Returns the mode of `sweep`.
-fn sweep_in<'a>(of: &ArgMatches<'a>) -> RunMode {
-    match of.get_one::<u64>("variant") {
+fn sweep_in<'a>(matches: &ArgMatches<'a>) -> RunMode {
+    match matches.get_one::<u64>("variant") {
         Some(place) => RunMode::Variant(place),
-        None => RunMode::Sweep(of.get_one::<u16>("threads")),
+        None => RunMode::Sweep(matches.get_one::<u16>("threads")),
     }
 }
 
 /// Returns the task of `live`.
-fn live_in<'a>(of: &ArgMatches<'a>) -> Option<CommandTask<'a>> {
-    let nodes = of.get_one::<u8>("nodes")?;
-    let calls = of.get_one::<u8>("calls")?;
+fn live_in<'a>(matches: &ArgMatches<'a>) -> Option<CommandTask<'a>> {
+    let nodes = matches.get_one::<u8>("nodes")?;
+    let calls = matches.get_one::<u8>("calls")?;
     Some(CommandTask::Live { nodes, calls })
 }
 
 /// Returns the task of `gen`, or the message for what is wrong with its words.
-fn generate_in<'a>(of: &ArgMatches<'a>) -> Result<CommandTask<'a>, &'static str> {
-    let (Some(seed), Some(events)) = (of.get_one::<u64>("seed"), of.get_one::<u32>("events")) else {
+fn generate_in<'a>(matches: &ArgMatches<'a>) -> Result<CommandTask<'a>, &'static str> {
+    let (Some(seed), Some(events)) = (
+        matches.get_one::<u64>("seed"),
+        matches.get_one::<u32>("events"),
+    ) else {
         return Err(NO_COMMAND);
     };
-    let votes = votes_in(of, "nodes")?;
+    let votes = votes_in(matches, "nodes")?;
     Ok(CommandTask::Generate {
         votes,
         seed,
@@ -249,12 +255,13 @@ fn generate_in<'a>(of: &ArgMatches<'a>) -> Result<CommandTask<'a>, &'static str>
 }
 
 /// Returns the task of `explore`, or the message for what is wrong with its words.
-fn explore_in<'a>(of: &ArgMatches<'a>) -> Result<CommandTask<'a>, &'static str> {
-    let (Some(seeds), Some(events)) = (of.get_str("seeds"), of.get_one::<u32>("events")) else {
+fn explore_in<'a>(matches: &ArgMatches<'a>) -> Result<CommandTask<'a>, &'static str> {
+    let (Some(seeds), Some(events)) = (matches.get_str("seeds"), matches.get_one::<u32>("events"))
+    else {
         return Err(NO_COMMAND);
     };
-    let threads = of.get_one::<u16>("threads");
-    let votes = votes_in(of, "nodes")?;
+    let threads = matches.get_one::<u16>("threads");
+    let votes = votes_in(matches, "nodes")?;
     match seeds_of(seeds) {
         Some((first, last)) => Ok(CommandTask::Explore(ExploreArguments {
             votes,
@@ -268,19 +275,19 @@ fn explore_in<'a>(of: &ArgMatches<'a>) -> Result<CommandTask<'a>, &'static str> 
 }
 
 /// Returns the task of `node`, or the message for what is wrong with its words.
-fn node_in<'a>(of: &ArgMatches<'a>) -> Result<CommandTask<'a>, &'static str> {
-    let Some(me) = of.get_one::<u8>("me") else {
+fn node_in<'a>(matches: &ArgMatches<'a>) -> Result<CommandTask<'a>, &'static str> {
+    let Some(me) = matches.get_one::<u8>("me") else {
         return Err(NO_COMMAND);
     };
-    let votes = votes_in(of, "of")?;
-    let periods = periods_of(of.get_str("periods")).ok_or(BAD_PERIODS)?;
+    let votes = votes_in(matches, "of")?;
+    let periods = periods_of(matches.get_str("periods")).ok_or(BAD_PERIODS)?;
     Ok(CommandTask::Node { me, votes, periods })
 }
 
 /// Returns the votes of as many nodes as the word `count` says, or the message for what is wrong with them.
-fn votes_in<'a>(of: &ArgMatches<'a>, count: &str) -> Result<VoteList, &'static str> {
-    match of.get_one::<u8>(count) {
-        Some(nodes) => votes_of(nodes, of.get_str("votes")).ok_or(BAD_VOTES),
+fn votes_in<'a>(matches: &ArgMatches<'a>, count: &str) -> Result<VoteList, &'static str> {
+    match matches.get_one::<u8>(count) {
+        Some(nodes) => votes_of(nodes, matches.get_str("votes")).ok_or(BAD_VOTES),
         None => Err(NO_COMMAND),
     }
 }

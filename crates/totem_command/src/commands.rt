@@ -5,7 +5,7 @@
 
 use crate::command_line::{CommandTask, ExploreArguments, task_of};
 use crate::listings::list_file;
-use crate::node::node;
+use crate::node::run_record_node;
 use crate::scripts::run_script;
 use crate::timing::print_time;
 use crate::traces::trace_file;
@@ -16,7 +16,9 @@ use ring_explore::{ExplorePlan, explore_of};
 use ring_live::live;
 use ring_object::Object;
 use ring_script_generator::generate_by;
-use ring_sweep::{BAD_COMMAND_LINE, Failure, ShelfVocabulary, StandardObjects, Vocabulary, report};
+use ring_sweep::{
+    BAD_COMMAND_LINE, Failure, ShelfVocabulary, StandardObjects, Vocabulary, report_failure,
+};
 use ring_trace::ReplyVocabulary;
 use std::alloc::Global;
 use std::io::{Read, Write};
@@ -120,7 +122,7 @@ pub fn run_of<
                 events,
             },
         ) => generate_by::<V, _, _, _>(rt.alloc(), votes.as_slice(), seed, events, out, err),
-        Ok(CommandTask::Node { me, votes, periods }) => node::<T, _, _, _>(
+        Ok(CommandTask::Node { me, votes, periods }) => run_record_node::<T, _, _, _>(
             rt.alloc(),
             me,
             votes.as_slice(),
@@ -193,10 +195,10 @@ pub(crate) fn processors<R: Threads>(rt: &R) -> u16 {
 /// Returns the exit status.
 fn print_parser_message<O: Write, E: Write>(error: &Error, out: &mut O, err: &mut E) -> u8 {
     match error.kind() {
-        ErrorKind::OutOfMemory => report(err, Failure::Refused(Fault::Memory)),
+        ErrorKind::OutOfMemory => report_failure(err, Failure::Refused(Fault::Memory)),
         ErrorKind::DisplayVersion => match write!(out, "{error}") {
             Ok(()) => 0,
-            Err(_) => report(err, Failure::Output),
+            Err(_) => report_failure(err, Failure::Output),
         },
         _ => {
             let _ = write!(err, "{error}");

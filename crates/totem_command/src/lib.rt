@@ -3,9 +3,9 @@
 //! Formats: The command line
 #![tactic(auto)]
 
+mod command_forms;
 mod command_line;
 mod commands;
-mod forms;
 mod listings;
 mod node;
 mod periods;

@@ -6,7 +6,7 @@ use crate::commands::INPUT;
 use crate::scripts::unreadable_reason;
 use ring_base::Fault;
 use ring_input_errors::frames_reason;
-use ring_sweep::{Failure, frames, report};
+use ring_sweep::{Failure, frames, report_failure};
 use std::alloc::Global;
 use std::io::{Error, ErrorKind, Read, Write};
 use std::rt::Files;
@@ -52,7 +52,7 @@ fn list_plainly<R: Files + AllocGlobal, I: Read, O: Write, E: Write>(
     }
     match fs::open(rt, file) {
         Ok(mut file) => frames(rt.alloc(), &mut file, out, err),
-        Err(_) => report(err, Failure::BadFrame(0)),
+        Err(_) => report_failure(err, Failure::BadFrame(0)),
     }
 }
 
@@ -65,7 +65,7 @@ fn list_explained<R: Files + AllocGlobal, I: Read, O: Write, E: Write>(
     err: &mut E,
 ) -> u8 {
     match read_all(rt, file, input) {
-        Ok(bytes) => list_bytes(rt.alloc(), bytes.as_slice(), out, err),
+        Ok(bytes) => list_and_explain(rt.alloc(), bytes.as_slice(), out, err),
         Err(error) => report_unread(&error, err),
     }
 }
@@ -93,9 +93,9 @@ fn read_all<R: Files + AllocGlobal, I: Read>(
 /// Returns the exit status, always 1.
 fn report_unread<E: Write>(error: &Error, err: &mut E) -> u8 {
     if error.kind() == ErrorKind::OutOfMemory {
-        return report(err, Failure::Refused(Fault::Memory));
+        return report_failure(err, Failure::Refused(Fault::Memory));
     }
-    let status = report(err, Failure::BadFrame(0));
+    let status = report_failure(err, Failure::BadFrame(0));
     let _ = writeln!(err, "totem: {}", unreadable_reason(error));
     status
 }
@@ -103,9 +103,14 @@ fn report_unread<E: Write>(error: &Error, err: &mut E) -> u8 {
 /// Lists the frames of these bytes.
 ///
 /// If a fault is reported on `err`, a line below explains why no frame begins there.
-fn list_bytes<O: Write, E: Write>(alloc: Global, bytes: &[u8], out: &mut O, err: &mut E) -> u8 {
+fn list_and_explain<O: Write, E: Write>(
+    alloc: Global,
+    bytes: &[u8],
+    out: &mut O,
+    err: &mut E,
+) -> u8 {
     let Ok(mut fault) = Vec::with_capacity(alloc, MAX_FAULT_LINE) else {
-        return report(err, Failure::Refused(Fault::Memory));
+        return report_failure(err, Failure::Refused(Fault::Memory));
     };
     let mut rest = bytes;
     let status = frames(alloc, &mut rest, out, &mut fault);

@@ -7,7 +7,7 @@
 use ring_base::{Fault, Fixed};
 use ring_object::Object;
 use ring_record_node::{Periods, serve_with_periods};
-use ring_sweep::{Failure, report};
+use ring_sweep::{Failure, report_failure};
 use std::alloc::Global;
 use std::io::{BufReader, Read, Write};
 
@@ -20,7 +20,7 @@ use std::io::{BufReader, Read, Write};
 ///
 /// Rules: Nodes that records drive 5 and 7
 /// Formats: Records; The command line
-pub(crate) fn node<T: Object<Alloc = Global>, I: Read, O: Write, E: Write>(
+pub(crate) fn run_record_node<T: Object<Alloc = Global>, I: Read, O: Write, E: Write>(
     alloc: Global,
     me: u8,
     votes: &[u8],
@@ -33,7 +33,7 @@ pub(crate) fn node<T: Object<Alloc = Global>, I: Read, O: Write, E: Write>(
         (Ok(group), Ok(mut input)) => {
             serve_with_periods::<T, _, _, _>(alloc, group, me, periods, &mut input, out, err)
         }
-        (Err(fault), _) => report(err, Failure::Refused(fault)),
-        (Ok(_), Err(_)) => report(err, Failure::Refused(Fault::Memory)),
+        (Err(fault), _) => report_failure(err, Failure::Refused(fault)),
+        (Ok(_), Err(_)) => report_failure(err, Failure::Refused(Fault::Memory)),
     }
 }

@@ -9,7 +9,7 @@ use ring_base::Fault;
 use ring_input_errors::{MAX_SCRIPT_BYTES, reason_by};
 use ring_object::Object;
 use ring_sweep::{
-    FAILED, Failure, Vocabulary, print_variant_of, report, script_of, sweep_of_by_threads,
+    FAILED, Failure, Vocabulary, print_variant_of, report_failure, script_of, sweep_of_by_threads,
 };
 use std::alloc::Global;
 use std::io::{Error, ErrorKind, Read, Write};
@@ -179,9 +179,9 @@ pub(crate) fn explain<V: Vocabulary, E: Write>(alloc: Global, text: &[u8], err: 
 /// Formats: The command line
 pub(crate) fn report_unreadable<E: Write>(error: &Error, is_explained: bool, err: &mut E) -> u8 {
     if error.kind() == ErrorKind::OutOfMemory {
-        return report(err, Failure::Refused(Fault::Memory));
+        return report_failure(err, Failure::Refused(Fault::Memory));
     }
-    let status = report(err, Failure::BadScript(0));
+    let status = report_failure(err, Failure::BadScript(0));
     if is_explained {
         let _ = writeln!(err, "totem: {}", unreadable_reason(error));
     }

@@ -6,7 +6,7 @@ use std::io::Write;
 use std::time::{Clock, Instant};
 
 /// After a failure no time is printed for work that took less than this, in milliseconds.
-const SHORT: u128 = 1_000;
+const SHORT_WORK_MILLIS: u128 = 1_000;
 
 /// Writes how long work took that began at `started` and has just ended with this exit status, as `took 12.3 s`.
 ///
@@ -27,7 +27,7 @@ pub(crate) fn print_time<C: Clock, W: Write>(
         return;
     };
     let millis = elapsed.as_millis();
-    if status == 0 || millis >= SHORT {
+    if status == 0 || millis >= SHORT_WORK_MILLIS {
         let _ = writeln!(out, "took {}.{} s", millis / 1_000, millis % 1_000 / 100);
     }
 }

@@ -8,7 +8,7 @@ use ring_base::{MAX_PROCESSORS, Proc};
 use ring_input_errors::QuotedWord;
 use ring_object::Object;
 use ring_sweep::{FAILED, Vocabulary};
-use ring_trace::{Format, ReplyVocabulary, Selection, TraceOptions, trace_of};
+use ring_trace::{ReplyVocabulary, Selection, TraceFormat, TraceOptions, trace_of};
 use std::alloc::Global;
 use std::io::{Read, Write};
 use std::rt::Files;
@@ -26,7 +26,7 @@ pub(crate) struct TraceArguments<'a> {
     file: &'a str,
     is_explained: bool,
     frames: Option<&'a str>,
-    format: Format,
+    format: TraceFormat,
     node: Option<u8>,
     from: u64,
     to: u64,
@@ -48,19 +48,19 @@ pub(crate) fn trace_arguments_in<'a>(file: &'a str, of: &ArgMatches<'a>) -> Trac
 }
 
 /// Returns the format in the parsed words, or text if none is named.
-fn format_in(of: &ArgMatches<'_>) -> Format {
+fn format_in(of: &ArgMatches<'_>) -> TraceFormat {
     match of.get_str("format") {
-        Some("json") => Format::Json,
-        Some("svg") => Format::Svg,
-        Some("html") => Format::Html,
-        _ => Format::Text,
+        Some("json") => TraceFormat::Json,
+        Some("svg") => TraceFormat::Svg,
+        Some("html") => TraceFormat::Html,
+        _ => TraceFormat::Text,
     }
 }
 
 /// Returns the options without the files.
 ///
 /// A function of its own, since no function may take both a `Proc` and borrowed words.
-fn asked_of(traced: &TraceArguments<'_>) -> TraceOptions {
+fn trace_options_of(traced: &TraceArguments<'_>) -> TraceOptions {
     TraceOptions {
         format: traced.format,
         selection: Selection {
@@ -116,7 +116,7 @@ fn trace_text<
     O: Write,
     E: Write,
 >(rt: &R, traced: &TraceArguments<'_>, text: &[u8], out: &mut O, err: &mut E) -> u8 {
-    let asked = asked_of(traced);
+    let asked = trace_options_of(traced);
     match traced.frames {
         Some(path) => {
             let mut sent = Vec::new(rt.alloc());

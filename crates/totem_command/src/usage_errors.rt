@@ -2,16 +2,16 @@
 //!
 //! Formats: The command line
 
-use crate::forms::{command_of, named_command};
+use crate::command_forms::{command_of, named_command};
 use clap::error::ErrorKind;
 use clap::{Command, Error};
 use std::alloc::{AllocError, Global};
 
 /// The beginning of each of the parser's messages.
-const BEGINNING: &str = "error: ";
+const MESSAGE_PREFIX: &str = "error: ";
 
 /// The end of each of the parser's messages that shows no usage.
-const END: &str = "\n\nFor more information, try '--help'.\n";
+const MESSAGE_SUFFIX: &str = "\n\nFor more information, try '--help'.\n";
 
 /// Returns the parser's message for these words, with the usage of their command if the value of an option is bad.
 ///
@@ -20,13 +20,15 @@ const END: &str = "\n\nFor more information, try '--help'.\n";
 /// Formats: The command line
 pub(crate) fn with_usage(alloc: Global, words: &[String], error: Error) -> Error {
     match error.kind() {
-        ErrorKind::InvalidValue | ErrorKind::ValueValidation => again(alloc, words, &error),
+        ErrorKind::InvalidValue | ErrorKind::ValueValidation => {
+            with_usage_of_command(alloc, words, &error)
+        }
         _ => error,
     }
 }
 
 /// Returns the message of the error, with the usage of the command that the words name.
-fn again(alloc: Global, words: &[String], error: &Error) -> Error {
+fn with_usage_of_command(alloc: Global, words: &[String], error: &Error) -> Error {
     match format!(in alloc; "{error}") {
         Ok(text) => usage_error(alloc, words, message_in(text.as_str())),
         Err(refused) => Error::from(refused),
@@ -35,8 +37,8 @@ fn again(alloc: Global, words: &[String], error: &Error) -> Error {
 
 /// Returns the message in the parser's text, without its beginning and its end.
 fn message_in(text: &str) -> &str {
-    let text = text.strip_prefix(BEGINNING).unwrap_or(text);
-    text.strip_suffix(END).unwrap_or(text)
+    let text = text.strip_prefix(MESSAGE_PREFIX).unwrap_or(text);
+    text.strip_suffix(MESSAGE_SUFFIX).unwrap_or(text)
 }
 
 /// Returns the parser's message for words with the fault `wrong`, with the usage of their command.

@@ -3,7 +3,7 @@ use Rattle.std.specs.Prelude.{ℕ, Bool, ◌==◌, ◌||◌, if◌then◌else◌
 use Rattle.std.specs.Option.{option_and_then}
 use Rattle.totem_ring.specs.KeyedOperation as keyed
 use Rattle.totem_ring.specs.Types.{KeyedOperation, ReplyParts}
-use Rattle.totem_ring.specs.Typed.{done, done_with, refused_with}
+use Rattle.totem_ring.specs.Typed.{done, done_with, not_done_with}
 use Rattle.totem_examples.specs.declared.lock_operation.LockOperation.{LockOperation}
 use Rattle.totem_examples.specs.declared.lock_operation.LockOperation.TheVariants.{Acquire, Release, Holder}
 
@@ -36,8 +36,8 @@ is_open has_it holder = has_it == 0 || has_it == holder
 
 -- The reply to an operation, by the holders before it; holder 0 is nobody.
 abbrev pub reply_to : List ℕ → LockOperation → ReplyParts
-reply_to holders (Acquire lock holder) = if is_open (slice_index holders lock) holder then done else refused_with (slice_index holders lock)
-reply_to holders (Release lock holder) = if slice_index holders lock == holder then done else refused_with (slice_index holders lock)
+reply_to holders (Acquire lock holder) = if is_open (slice_index holders lock) holder then done else not_done_with (slice_index holders lock)
+reply_to holders (Release lock holder) = if slice_index holders lock == holder then done else not_done_with (slice_index holders lock)
 reply_to holders (Holder lock) = done_with (slice_index holders lock)
 
 -- The holders after an operation.

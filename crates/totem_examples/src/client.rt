@@ -69,7 +69,7 @@ pub fn cut_network<O: Object>(
     alone: Proc,
 ) -> Result<Shared<O>, Fault> {
     let mut network = Network::new(World::<O>::new(alloc, fixed)?);
-    network.cut(fixed.everybody().less(ProcSet::only(alone)));
+    network.cut(fixed.everybody().without_members(ProcSet::singleton(alone)));
     Ok(Rc::new(alloc, RefCell::new(network))?)
 }
 

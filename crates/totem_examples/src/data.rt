@@ -42,12 +42,12 @@ const FOLDER: &str = ".";
 pub fn run_all<R: Files + AllocGlobal + Print + Threads + Wait + Clock + Sync + Clone + Drop>(
     rt: &R,
 ) -> io::Result<bool> {
-    let mut are_right = true;
+    let mut are_replies_right = true;
     for kind in KINDS {
         let are = run_each(rt, kind)?;
-        are_right = are_right && are;
+        are_replies_right = are_replies_right && are;
     }
-    Ok(are_right)
+    Ok(are_replies_right)
 }
 
 /// Runs the examples of one kind.
@@ -56,12 +56,12 @@ fn run_each<R: Files + AllocGlobal + Print + Threads + Wait + Clock + Sync + Clo
     kind: Kind,
 ) -> io::Result<bool> {
     let names = names_of(rt, kind)?;
-    let mut are_right = true;
+    let mut are_replies_right = true;
     for name in &names {
         let is_right = run_one(rt, name.as_str(), kind)?;
-        are_right = are_right && is_right;
+        are_replies_right = are_replies_right && is_right;
     }
-    Ok(are_right)
+    Ok(are_replies_right)
 }
 
 /// Runs the example of this kind and name.

@@ -105,7 +105,9 @@ fn client_of<O: Object>(
 
 /// Cuts this node off: only the others hear each other from now on.
 fn cut_off<O: Object>(shared: &Shared<O>, group: Fixed, node: u8) -> Result<(), Fault> {
-    let others = group.everybody().less(ProcSet::only(group.proc(node)?));
+    let others = group
+        .everybody()
+        .without_members(ProcSet::singleton(group.proc(node)?));
     let Ok(mut network) = shared.try_borrow_mut() else {
         return Err(Fault::NoAnswer);
     };

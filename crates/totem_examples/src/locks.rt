@@ -6,7 +6,7 @@ use crate::lock_operation::LockOperation;
 use std::alloc::{Allocator, Global};
 use std::marker::Model;
 use totem_ring::{
-    Fault, Object, Reply, ReplyParts, Table, done, done_with, refused_with, reply_of,
+    Fault, Object, Reply, ReplyParts, Table, done, done_with, not_done_with, reply_of,
 };
 
 /// A table of 256 locks, all free at the start. Each is free or has a holder.
@@ -87,7 +87,7 @@ impl<A: Allocator + Copy + Drop> Locks<A> {
             LockOperation::Acquire(lock, holder) => {
                 let has_it = self.holders.get(lock);
                 if has_it != 0 && has_it != holder {
-                    return refused_with(has_it);
+                    return not_done_with(has_it);
                 }
                 self.holders.set(lock, holder);
                 done()
@@ -95,7 +95,7 @@ impl<A: Allocator + Copy + Drop> Locks<A> {
             LockOperation::Release(lock, holder) => {
                 let has_it = self.holders.get(lock);
                 if has_it != holder {
-                    return refused_with(has_it);
+                    return not_done_with(has_it);
                 }
                 self.holders.set(lock, 0);
                 done()

@@ -113,7 +113,7 @@ fn story_of<O: Object>(
     stop(shared, stopping)?;
     time_out(shared, alone, Kind::Join)?;
     let second = ask(client, &add)?;
-    cut(shared, everybody.less(ProcSet::only(alone)))?;
+    cut(shared, everybody.without_members(ProcSet::singleton(alone)))?;
     let refused = ask(client, &add).err();
     cut(shared, everybody)?;
     time_out(shared, alone, Kind::Loss)?;

@@ -41,7 +41,7 @@
 //!
 //! - [`object_law`]: the laws of an object.
 //! - [`linear_law`]: every run whose calls are within the limits of a call has one order.
-//! - [`call_keeps_law`]: a call within the limits of a frame can be encoded in a snapshot, too.
+//! - [`call_fits_snapshot_law`]: a call within the limits of a frame can be encoded in a snapshot, too.
 //! - [`node_fits_law`]: a node and each frame that it sends are within the limits of the formats.
 //! - [`stopped_for_memory_law`]: after a single event, a world knows exactly which node stopped because an allocation
 //!   failed.
@@ -55,7 +55,8 @@ pub use ring_client_threads::{
 };
 pub use ring_core_world::{RingEvent, Rings};
 pub use ring_driver::{
-    Driver, Input, Node, OutgoingFrame, Outs, ValidFrame, call_keeps_law, linear_law, node_fits_law,
+    Driver, Input, Node, OutgoingFrame, Outs, ValidFrame, call_fits_snapshot_law, linear_law,
+    node_fits_law,
 };
 pub use ring_explore::{ExplorePlan, explore_of};
 pub use ring_object::{Object, Reply, ShortBytes, object_law};
@@ -66,10 +67,10 @@ pub use ring_session::{Answer, Ticket, TicketAnswer};
 pub use ring_sweep::{is_linearization, script_of, sweep_of};
 pub use ring_things::{
     Counters, KeyedOperation, Names, Operation, Outcome, Queue, Registers, ReplyParts, Shelf,
-    ShelfOperation, ShelfPlace, Table, done, done_with, refused_with, reply_of,
+    ShelfOperation, ShelfPosition, Table, done, done_with, not_done_with, reply_of,
 };
 pub use ring_timers::{Periods, StepOutcome, Timers, timers_law};
-pub use ring_trace::{Format, ReplyForm, ReplyVocabulary, Selection, TraceOptions, trace_of};
+pub use ring_trace::{ReplyForm, ReplyVocabulary, Selection, TraceFormat, TraceOptions, trace_of};
 pub use ring_wire::{Frame, decode_frame};
 pub use ring_world_port::{
     Event, Item, Network, Noise, Pump, Shared, Told, World, WorldPort, stopped_for_memory_law,

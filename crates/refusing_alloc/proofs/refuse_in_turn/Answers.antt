@@ -9,6 +9,6 @@ below-add-one P n all last k below =
     elim (eq-or-lt_of_le up_to) [ inl is ↦ subst P (sym is) last | inr less ↦ all k less ]
 
 -- the call over this turn's allocator was refused
-pub loop-passed-preserved : goal.loop-passed-preserved
-loop-passed-preserved g c =
-    below-add-one _ c.loop-passed.passed c.loop-passed.invariant (_, c.new-heap.ensures, c.in-Err-true.ensures)
+pub loop-passed_requests-preserved : goal.loop-passed_requests-preserved
+loop-passed_requests-preserved g c =
+    below-add-one _ c.loop-passed_requests.passed_requests c.loop-passed_requests.invariant (_, c.new-heap.ensures, c.in-Err-true.ensures)

@@ -1,7 +1,7 @@
 -- The run is computed once: one value has all its facts, and each clause is a part of that value.
 use Rattle.std.proofs.Common.{◌≡◌, ℕ, List, [], ◌∷◌, length, map, Option, Some, refl, ap}
 use Rattle.ring_base.specs.Processors.{elements}
-use Rattle.ring_base.specs.declared.kind.Kind.TheVariants.{Join}
+use Rattle.ring_base.specs.declared.timeout_kind.Kind.TheVariants.{Join}
 use Rattle.ring_core_spec.specs.Stepping.{ring_step}
 use Rattle.ring_payload.specs.Operations.{op_at}
 use Rattle.ring_session.specs.Snapshots.{parts_at, sessions_at, object_at, clients_at, client_at, reply_at}
@@ -10,7 +10,7 @@ use Rattle.ring_session.specs.declared.answer.Answer.TheVariants.{Done}
 use Rattle.ring_node_spec.specs.Nodes.{node_reply, node_snapshot}
 use Rattle.ring_node_spec.specs.Worlds.{committed_in}
 use Rattle.ring_node_spec.specs.declared.event.Event.TheVariants.{Issue, Timeout}
-use Rattle.ring_node_spec_examples.specs.Rows.{Pumped, counter, shown, on, pump, two_after, call_of_seven, known_there, snapshot_of_seven}
+use Rattle.ring_node_spec_examples.specs.ExampleRuns.{Pumped, counter, lengths_of_nodes, pumped_after_event, world_after_pairs, two_nodes_after_batches, call_of_seven, known_there, snapshot_of_seven}
 use Rattle.ring_node_spec_examples.proofs.restored_snapshot.Goals as goal
 
 -- after a call at node 3
@@ -33,7 +33,7 @@ joined p = record {
   known = known_there p;
   snapshot = node_snapshot counter (p.world.nodes 3);
   whole = map length (committed_in p.world);
-  next = asked (pump 30 (on p (Issue 3 (call_of_seven 257))));
+  next = asked (world_after_pairs 30 (pumped_after_event p (Issue 3 (call_of_seven 257))));
 }
 
 -- while node 3 is away
@@ -42,9 +42,9 @@ record Away : Type 0 where
   next : Joined
 
 abbrev away : Pumped → Away
-away p = record { lengths = shown p.world 3; next = joined (pump 60 (on p (Timeout 3 Join))) }
+away p = record { lengths = lengths_of_nodes p.world 3; next = joined (world_after_pairs 60 (pumped_after_event p (Timeout 3 Join))) }
 
-computed : away (two_after 4) ≡ record {
+computed : away (two_nodes_after_batches 4) ≡ record {
   lengths = (256, 256) ∷ (256, 256) ∷ (0, 0) ∷ [];
   next = record {
     known = 256 ∷ 256 ∷ 256 ∷ 256 ∷ 0 ∷ [];

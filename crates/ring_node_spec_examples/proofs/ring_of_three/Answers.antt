@@ -4,10 +4,10 @@ use Rattle.std.specs.declared.alloc.Global.{Global}
 use Rattle.ring_base.specs.Processors.{elements}
 use Rattle.ring_core_spec.specs.Stepping.{ring_step}
 use Rattle.ring_payload.specs.declared.call.Call.{Call}
-use Rattle.ring_session.specs.declared.answered.TicketAnswer.{TicketAnswer}
+use Rattle.ring_session.specs.declared.ticket_answer.TicketAnswer.{TicketAnswer}
 use Rattle.ring_node_spec.specs.Worlds.{World, order}
-use Rattle.ring_node_spec.specs.declared.told.Told.{Told}
-use Rattle.ring_node_spec_examples.specs.Rows.{shown, answered_three, done_at, call_of_seven}
+use Rattle.ring_node_spec.specs.declared.client_report.Told.{Told}
+use Rattle.ring_node_spec_examples.specs.ExampleRuns.{lengths_of_nodes, answered_three, done_at, call_of_seven}
 use Rattle.ring_node_spec_examples.proofs.ring_of_three.Goals as goal
 
 record Seen : Type 0 where
@@ -18,7 +18,7 @@ record Seen : Type 0 where
   ordered : List (Call Global)
 
 abbrev seen : World Global → Seen
-seen w = record { lengths = shown w 3; told = w.told; done = (w.nodes 3).done; answers = (w.nodes 3).answers; ordered = order w }
+seen w = record { lengths = lengths_of_nodes w 3; told = w.told; done = (w.nodes 3).done; answers = (w.nodes 3).answers; ordered = order w }
 
 computed : seen answered_three ≡ record {
   lengths = (1, 1) ∷ (1, 1) ∷ (1, 1) ∷ [];

@@ -40,8 +40,8 @@ use Rattle.std.proofs.alloc.Calls.{Al, α, seen, Answer, answer_val, Answer-type
 use Rattle.std.proofs.alloc.Calls.{Takes, at_takes, Answered, Takes-goes, Takes-gives, answers}
 use Rattle.std.proofs.VecSteps.Shapes.{after}
 use Rattle.refusing_alloc.proofs.Refuses.{Row, Refuses, at_refuses, Refuses-goes, Refuses-gives}
-use Rattle.refusing_alloc.proofs.requests.Requests.refuses_next.Symbol as c_sym
-use Rattle.refusing_alloc.proofs.requests.Requests.refuses_next.Met as c_met
+use Rattle.refusing_alloc.proofs.request_counter.RequestCounter.count_and_is_refused.Symbol as c_sym
+use Rattle.refusing_alloc.proofs.request_counter.RequestCounter.count_and_is_refused.Met as c_met
 use Rattle.refusing_alloc.specs.contracts.RefusingHeap as wrapper
 use Rattle.refusing_alloc.specs.contracts.RefusingHeapAllocator.allocate as F
 use Rattle.refusing_alloc.specs.contracts.RefusingHeapAllocator.allocate.Key as key
@@ -154,5 +154,5 @@ allocate_spec 𝓤 𝓛 𝓜 𝓡 wired Y L g d d' met _ =
     (λ κs. ((λ r vs s. s.0), (uint_Tells w64, (uint_Tells w64, tt))))
     (λ κs qs bounds a τ are. walk Z 𝓛 𝓜.mem 𝓡.returns 𝓣 (met.allocate d')
     (cited 𝓤 𝓛.H _ 𝓜 𝓡 𝓡.env c_sym.name (𝓡.env c_sym.name) refl
-    (c_met.met 𝓤 𝓛 𝓜 𝓡 (code.calls-refusing_alloc::requests::Requests::refuses_next 𝓡.env wired)))
+    (c_met.met 𝓤 𝓛 𝓜 𝓡 (code.calls-refusing_alloc::request_counter::RequestCounter::count_and_is_refused 𝓡.env wired)))
     κs.0 κs.1.0 qs.0 qs.1.0 bounds.0 a.0 a.1.0 a.1.1.0 τ are.1.0.1 are.1.1.0.1)))

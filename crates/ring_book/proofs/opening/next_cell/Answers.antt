@@ -1,7 +1,7 @@
 use Rattle.std.proofs.Common.{◌≡◌, ◌-◌, suc, refl, subst, length, arith, sym, ap, add-one, drop}
 use Rattle.ring_book_lines.specs.Limits.{NodeFits}
 use Rattle.ring_book_lines.specs.Machines.{node_machine}
-use Rattle.ring_book.specs.Ends.{ring_of_producer}
+use Rattle.ring_book.specs.JournalEnds.{ring_of_producer}
 use Rattle.ring_book.specs.Openings.{rings_of}
 use Rattle.ring_book.proofs.Opened.{start_cell, drop_next, starts_length, some_more}
 use Rattle.ring_book.proofs.opening.next_cell.Goals as goal

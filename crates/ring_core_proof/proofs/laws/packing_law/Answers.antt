@@ -1,8 +1,8 @@
-use Rattle.ring_payload.proofs.Packing.{length-packed_payloads, first_run-longest, unpacked_payloads-packed_payloads, packed_payloads-fits, packed_payloads-users}
+use Rattle.ring_payload.proofs.Packing.{length-packed_payloads, longest_call_run-longest, unpacked_payloads-packed_payloads, packed_payloads-fits, packed_payloads-users}
 use Rattle.ring_core_proof.proofs.laws.packing_law.Goals as goal
 
 pub returns-clause-longest : goal.returns-clause-longest
-returns-clause-longest g c = first_run-longest
+returns-clause-longest g c = longest_call_run-longest
 
 pub returns-clause-few : goal.returns-clause-few
 returns-clause-few g c = length-packed_payloads

@@ -12,7 +12,7 @@ returns-then-from-many-clause-ok g t c =
     let IsT = IsTriedIn g.O.Object.sequential g.V.Vocabulary.forms c.args.plan.now in
     let first = c.args.plan.now.first in
     let many = seeds_in first c.args.plan.now.last in
-    let is_many = c.many-many.ensures in
+    let is_many = c.seed_count-many.ensures in
     let past = c.if-from-many.true in
     λ order.
     let ends : first + c.args.from ≡ first + many = omega (arith, order, is_many, past) in
@@ -26,18 +26,18 @@ returns-then-is_some-clause-ok g t c =
     let many = seeds_in first c.args.plan.now.last in
     let from = c.args.from in
     let upto = c.round_end-upto.result in
-    let is_many = c.many-many.ensures in
+    let is_many = c.seed_count-many.ensures in
     let is_end = c.round_end-upto.ensures in
-    let grows = round_grows from c.size.result c.many-many.result (omega (arith, c.if-from-many.false)) in
-    let within = round_within from c.size.result c.many-many.result in
+    let grows = round_grows from c.next_round_items.result c.seed_count-many.result (omega (arith, c.if-from-many.false)) in
+    let within = round_within from c.next_round_items.result c.seed_count-many.result in
     let less : from < upto = omega (arith, is_end, grows) in
     let most : upto ≤ many = omega (arith, is_end, within, is_many) in
-    let round = c.part-round.result in
-    let explore_totals = c.in_ok-explore_totals.explore_totals.illegal in
-    let tried = same_scripts g.O.Object.sequential g.V.Vocabulary.forms round c.args.plan.now round.first (round.first + seeds_in round.first round.last) explore_totals
-    c.part-round.ensures.votes c.part-round.ensures.lines c.in_ok-explore_totals.ensures.ok in
-    λ order. tried_more IsT (first + from) (first + upto) (first + many) explore_totals (sym c.is_some.ensures ∙ c.if-is_some.true) (omega (arith, most))
-    (tried_part IsT first from upto round.first round.last explore_totals less (omega (arith, most)) c.part-round.ensures.first c.part-round.ensures.last
+    let round = c.sub_plan-round.result in
+    let seed_totals = c.in_ok-seed_totals.seed_totals.illegal in
+    let tried = same_scripts g.O.Object.sequential g.V.Vocabulary.forms round c.args.plan.now round.first (round.first + seeds_in round.first round.last) seed_totals
+    c.sub_plan-round.ensures.votes c.sub_plan-round.ensures.lines c.in_ok-seed_totals.ensures.ok in
+    λ order. tried_more IsT (first + from) (first + upto) (first + many) seed_totals (sym c.is_some.ensures ∙ c.if-is_some.true) (omega (arith, most))
+    (tried_part IsT first from upto round.first round.last seed_totals less (omega (arith, most)) c.sub_plan-round.ensures.first c.sub_plan-round.ensures.last
     tried)
 
 pub returns-clause-ok : goal.returns-clause-ok
@@ -47,18 +47,18 @@ returns-clause-ok g t c =
     let many = seeds_in first c.args.plan.now.last in
     let from = c.args.from in
     let upto = c.round_end-upto.result in
-    let is_many = c.many-many.ensures in
+    let is_many = c.seed_count-many.ensures in
     let is_end = c.round_end-upto.ensures in
-    let grows = round_grows from c.size.result c.many-many.result (omega (arith, c.if-from-many.false)) in
-    let within = round_within from c.size.result c.many-many.result in
+    let grows = round_grows from c.next_round_items.result c.seed_count-many.result (omega (arith, c.if-from-many.false)) in
+    let within = round_within from c.next_round_items.result c.seed_count-many.result in
     let less : from < upto = omega (arith, is_end, grows) in
     let most : upto ≤ many = omega (arith, is_end, within, is_many) in
-    let round = c.part-round.result in
-    let explore_totals = c.in_ok-explore_totals.explore_totals.illegal in
-    let tried = same_scripts g.O.Object.sequential g.V.Vocabulary.forms round c.args.plan.now round.first (round.first + seeds_in round.first round.last) explore_totals
-    c.part-round.ensures.votes c.part-round.ensures.lines c.in_ok-explore_totals.ensures.ok in
+    let round = c.sub_plan-round.result in
+    let seed_totals = c.in_ok-seed_totals.seed_totals.illegal in
+    let tried = same_scripts g.O.Object.sequential g.V.Vocabulary.forms round c.args.plan.now round.first (round.first + seeds_in round.first round.last) seed_totals
+    c.sub_plan-round.ensures.votes c.sub_plan-round.ensures.lines c.in_ok-seed_totals.ensures.ok in
     let others = c.in_ok-others.others.illegal in
     λ order. subst (λ (f : Option ℕ). AreTried IsT (first + from) (first + many) f) (sym c.add.ensures.illegal)
-    (tried_append IsT (first + from) (first + upto) (first + many) explore_totals others (omega (arith, less)) (omega (arith, most))
-    (tried_part IsT first from upto round.first round.last explore_totals less (omega (arith, most)) c.part-round.ensures.first c.part-round.ensures.last
+    (tried_append IsT (first + from) (first + upto) (first + many) seed_totals others (omega (arith, less)) (omega (arith, most))
+    (tried_part IsT first from upto round.first round.last seed_totals less (omega (arith, most)) c.sub_plan-round.ensures.first c.sub_plan-round.ensures.last
     tried) (c.in_ok-others.ensures.ok most))

@@ -4,4 +4,4 @@ use Rattle.ring_explore.proofs.exploring.explore_all.Goals as goal
 
 pub returns-clause-stranger : goal.returns-clause-stranger
 returns-clause-stranger g c =
-    λ strangers some. absurd (strangers (tried_votes g.T.Object.sequential g.V.Vocabulary.forms c.args.plan.now c.in_ok-explore_totals.explore_totals.illegal some c.in_ok-explore_totals.ensures.ok))
+    λ strangers some. absurd (strangers (tried_votes g.T.Object.sequential g.V.Vocabulary.forms c.args.plan.now c.in_ok-seed_totals.seed_totals.illegal some c.in_ok-seed_totals.ensures.ok))

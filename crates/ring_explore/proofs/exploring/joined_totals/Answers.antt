@@ -24,9 +24,9 @@ loop-part-preserved g c =
     let all = c.requires.len in
     let len = parts.ok.0 in
     let given = c.requires.each k c.in-Some.part (omega (arith, less, all, len)) in
-    let explore_totals = found_of c.in-Some.part _ c.in_ok-explore_totals.explore_totals
-    (λ (f : ExploreTotals). AreTried IsT (first + share_begin many shares k) (first + share_begin many shares (k + 1)) f.illegal) turn.1 c.in_ok-explore_totals.was given in
-    let more = tried_share IsT first many shares k c.loop-part.all.illegal c.in_ok-explore_totals.explore_totals.illegal c.loop-part.invariant explore_totals in
+    let seed_totals = found_of c.in-Some.part _ c.in_ok-seed_totals.seed_totals
+    (λ (f : ExploreTotals). AreTried IsT (first + share_begin many shares k) (first + share_begin many shares (k + 1)) f.illegal) turn.1 c.in_ok-seed_totals.was given in
+    let more = tried_share IsT first many shares k c.loop-part.all.illegal c.in_ok-seed_totals.seed_totals.illegal c.loop-part.invariant seed_totals in
     let next = one_longer c.loop-part.yielded c.in-Some.part in
     subst (λ (n : ℕ). AreTried IsT first (first + share_begin many shares n) c.add.new.self.illegal) next
     (subst (λ (f : Option ℕ). AreTried IsT first (first + share_begin many shares (k + 1)) f) (sym c.add.ensures.illegal) more)

@@ -14,7 +14,7 @@ returns-then-is_some-clause-ok g c =
     let many = seeds_in first plan.last in
     let shares = c.args.shares in
     let share = c.args.share in
-    let count = c.many-many.ensures in
+    let count = c.seed_count-many.ensures in
     let begin : c.share_begin-begin.result ≡ share_begin many shares share =
     c.share_begin-begin.ensures ∙ ap (λ (n : ℕ). share_begin n shares share) count in
     let end : c.share_begin-end.result ≡ share_begin many shares (share + 1) =
@@ -22,7 +22,7 @@ returns-then-is_some-clause-ok g c =
     ∙ next_begin many shares share c.saturating_add.result (omega arith) c.saturating_add.ensures) in
     let place = c.loop-place.place in
     let passed = c.loop-place.auto.place in
-    let behind = tried_next IsT first (share_begin many shares share) place c.loop-place.explore_totals.illegal c.in_ok-one.one.illegal
+    let behind = tried_next IsT first (share_begin many shares share) place c.loop-place.seed_totals.illegal c.in_ok-one.one.illegal
     (omega (arith, begin, passed)) c.loop-place.invariant c.in_ok-one.ensures.ok in
     let added = subst (λ (f : Option ℕ). AreTried IsT (first + share_begin many shares share) (first + (place + 1)) f) (sym c.add.ensures.illegal) behind in
     let less = c.loop-place-test.true in
@@ -38,10 +38,10 @@ loop-place-preserved g c =
     let shares = c.args.shares in
     let share = c.args.share in
     let begin : c.share_begin-begin.result ≡ share_begin many shares share =
-    c.share_begin-begin.ensures ∙ ap (λ (n : ℕ). share_begin n shares share) c.many-many.ensures in
+    c.share_begin-begin.ensures ∙ ap (λ (n : ℕ). share_begin n shares share) c.seed_count-many.ensures in
     let place = c.loop-place.place in
     let passed = c.loop-place.auto.place in
-    let behind = tried_next IsT first (share_begin many shares share) place c.loop-place.explore_totals.illegal c.in_ok-one.one.illegal
+    let behind = tried_next IsT first (share_begin many shares share) place c.loop-place.seed_totals.illegal c.in_ok-one.one.illegal
     (omega (arith, begin, passed)) c.loop-place.invariant c.in_ok-one.ensures.ok in
     let added = subst (λ (f : Option ℕ). AreTried IsT (first + share_begin many shares share) (first + (place + 1)) f) (sym c.add.ensures.illegal) behind in
     added
@@ -54,7 +54,7 @@ returns-clause-ok g c =
     let many = seeds_in first plan.last in
     let shares = c.args.shares in
     let share = c.args.share in
-    let count = c.many-many.ensures in
+    let count = c.seed_count-many.ensures in
     let begin : c.share_begin-begin.result ≡ share_begin many shares share =
     c.share_begin-begin.ensures ∙ ap (λ (n : ℕ). share_begin n shares share) count in
     let end : c.share_begin-end.result ≡ share_begin many shares (share + 1) =
@@ -65,4 +65,4 @@ returns-clause-ok g c =
     let most = c.loop-place.auto.place-end (omega (arith, begin, end, grows)) in
     let over = c.loop-place-test.false in
     let all : c.loop-place.place ≡ share_begin many shares (share + 1) = omega (arith, end, most, over) in
-    subst (λ (n : ℕ). AreTried IsT (first + share_begin many shares share) (first + n) c.loop-place.explore_totals.illegal) all c.loop-place.invariant
+    subst (λ (n : ℕ). AreTried IsT (first + share_begin many shares share) (first + n) c.loop-place.seed_totals.illegal) all c.loop-place.invariant

@@ -8,4 +8,4 @@ use Rattle.ring_explore.proofs.exploring.try_share.Given as goal
 abbrev pub invariant-loop-place : goal.invariant-loop-place
 invariant-loop-place g l =
     AreTried (IsTriedIn g.O.Object.sequential g.V.Vocabulary.forms l.plan)
-    (l.plan.first + share_begin (seeds_in l.plan.first l.plan.last) l.shares l.share) (l.plan.first + l.place) l.explore_totals.illegal
+    (l.plan.first + share_begin (seeds_in l.plan.first l.plan.last) l.shares l.share) (l.plan.first + l.place) l.seed_totals.illegal

@@ -12,7 +12,7 @@ returns-in-Some g c =
     let a = c.args in
     let call = c.write_record in
     let told = told_as call.result _ _ 81 _ _ (status_bytes a.state a.ring a.committed a.log a.trimmed) (membership_bytes c.in-Some.members)
-    c.bytes_of_status-bytes.ensures c.bytes.ensures call.ensures in
+    c.encode_status-bytes.ensures c.encode_membership.ensures call.ensures in
     subst (λ (m : Option Membership). OnOk call.result (Appends (g.W.Write.contents a.out.now) (g.W.Write.contents call.new.out)
     (status_record a.state a.ring a.committed a.log a.trimmed m))) (sym c.in-Some.is) told
 
@@ -20,6 +20,6 @@ pub returns-in-None : goal.returns-in-None
 returns-in-None g c =
     let a = c.args in
     let call = c.write_record-in-None in
-    let told = told_as call.result _ _ 81 _ _ (status_bytes a.state a.ring a.committed a.log a.trimmed) [] c.bytes_of_status-bytes.ensures refl call.ensures in
+    let told = told_as call.result _ _ 81 _ _ (status_bytes a.state a.ring a.committed a.log a.trimmed) [] c.encode_status-bytes.ensures refl call.ensures in
     subst (λ (m : Option Membership). OnOk call.result (Appends (g.W.Write.contents a.out.now) (g.W.Write.contents call.new.out)
     (status_record a.state a.ring a.committed a.log a.trimmed m))) (sym c.in-None.is) told

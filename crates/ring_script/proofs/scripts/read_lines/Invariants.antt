@@ -10,7 +10,7 @@ use Rattle.ring_script.proofs.scripts.read_lines.Given as goal
 abbrev pub invariant-loop-number : goal.invariant-loop-number
 invariant-loop-number g l = record {
   read :
-      behind (map numbered_by l.asked.items) (requests_in g.V.Vocabulary.forms l.nodes l.lines.before l.lines.lines)
+      behind (map numbered_by l.numbered_lines.items) (requests_in g.V.Vocabulary.forms l.nodes l.lines.before l.lines.lines)
       ≡ requests_in g.V.Vocabulary.forms l.nodes l.initial.lines.before l.initial.lines.lines;
   plain : l.is_plain ≡ true → list_all are_ascii l.lines.lines ≡ true;
 }

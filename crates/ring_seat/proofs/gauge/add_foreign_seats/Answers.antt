@@ -22,7 +22,7 @@ loop-foreign_seat-preserved g c =
     let past : c.args.nodes ≤ at = omega arith in
     let is : seat ≡ new_seat gauge (node_at c.args.nodes at) = rw c.new.ensures
     (new_of_none gauge c.split_seat-seat.result.table_id c.args.nodes at c.split_seat-seat.result.me.0.published
-    c.split_seat-seat.result.me.0.seen table past (ap (λ v. v.published) own) (ap (λ v. v.seen) own)) in
+    c.split_seat-seat.result.me.0.loaded_words table past (ap (λ v. v.published) own) (ap (λ v. v.loaded_words) own)) in
     record {
       table_is = e.0 ∙ i.table_is;
       words = i.words;

@@ -9,9 +9,9 @@ use Rattle.ring_seat.proofs.gauge.seats_of_nodes.Goals as goal
 pub split_seat-seat-requires : goal.split_seat-seat-requires
 split_seat-seat-requires g c =
     let i = c.loop-node.invariant in
-    let next = ap (λ v. v.next) i.maker in
+    let next = ap (λ v. v.seated_nodes) i.maker in
     let count = ap (λ v. v.count) i.maker in
-    (i.table_is, omega (arith, c.requires.words), owner_splits c.loop-node.maker.id c.loop-node.maker.me.0 (ap (λ v. v.makes) i.maker) (omega arith))
+    (i.table_is, omega (arith, c.requires.words), owner_splits c.loop-node.maker.id c.loop-node.maker.me.0 (ap (λ v. v.is_maker) i.maker) (omega arith))
 
 pub loop-node-preserved : goal.loop-node-preserved
 loop-node-preserved g c =
@@ -27,7 +27,7 @@ loop-node-preserved g c =
     let number : c.new.result ≡ suc c.loop-node.node = omega (arith, c.new.ensures) in
     let is : seat ≡ new_seat gauge (node_at c.args.nodes c.loop-node.node) = rw c.new-in-loop-node.ensures
     (new_of_node gauge c.split_seat-seat.result.table_id c.args.nodes c.loop-node.node c.new.result c.split_seat-seat.result.me.0.published
-    c.split_seat-seat.result.me.0.seen table number lt (ap (λ v. v.published) own) (ap (λ v. v.seen) own)) in
+    c.split_seat-seat.result.me.0.loaded_words table number lt (ap (λ v. v.published) own) (ap (λ v. v.loaded_words) own)) in
     record {
       maker = maker ∙ ap maker_after_seat i.maker;
       table_is = e.0 ∙ i.table_is;

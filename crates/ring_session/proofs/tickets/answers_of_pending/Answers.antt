@@ -5,13 +5,13 @@ use Rattle.ring_payload.specs.declared.call.Call.{Call}
 use Rattle.ring_session.specs.Buckets.{AreCommitted}
 use Rattle.ring_session.specs.Table.{table_next}
 use Rattle.ring_session.specs.TicketEffects.{done_after}
-use Rattle.ring_session.specs.Pendings.{answers_behind}
+use Rattle.ring_session.specs.TicketsState.{answers_after_committed}
 use Rattle.ring_session.proofs.TicketEffects.{done-next}
 use Rattle.ring_base.proofs.Rows.{drop-next, take-next}
 use Rattle.ring_session.proofs.Pendings.{answers-on}
 use Rattle.ring_session.proofs.BucketPlaces.{answers_to-split}
 use Rattle.ring_session.proofs.tickets.answers_of_pending.Goals as goal
-use Rattle.ring_session.proofs.tickets.answers_of_pending.Goals.{then-is_done, else-is_done}
+use Rattle.ring_session.proofs.tickets.answers_of_pending.Goals.{then-is_done_answer, else-is_done_answer}
 
 pub loop-place-preserved : goal.loop-place-preserved
 loop-place-preserved g c =
@@ -25,27 +25,27 @@ loop-place-preserved g c =
     let answer = c.in_ok-answer.ensures.answer in
     let after = c.in_ok-answer.ensures.ok in
     record {
-      few = elim c.if-is_done.branch [ then-is_done w ↦ omega arith | else-is_done w ↦ omega arith ];
+      few = elim c.if-is_done_answer.branch [ then-is_done_answer w ↦ omega arith | else-is_done_answer w ↦ omega arith ];
       effects =
           done-next object c.loop-place.sessions c.apply.new.self more i call c.in_ok-answer.answer
-          (done_after object c.args.sessions.now more) c.loop-place.effects c.if-is_done.effects
+          (done_after object c.args.sessions.now more) c.loop-place.effects c.if-is_done_answer.effects
           rest answer after
-          (elim c.if-is_done.branch [
-            | then-is_done w ↦ let one = ap {B = ℕ} (λ b. if b then 1 else 0) (sym c.is_done.ensures ∙ w.if-is_done.true) in omega (arith, one)
-            | else-is_done w ↦ let none = ap {B = ℕ} (λ b. if b then 1 else 0) (sym c.is_done.ensures ∙ w.if-is_done.false) in omega (arith, none)
+          (elim c.if-is_done_answer.branch [
+            | then-is_done_answer w ↦ let one = ap {B = ℕ} (λ b. if b then 1 else 0) (sym c.is_done_answer.ensures ∙ w.if-is_done_answer.true) in omega (arith, one)
+            | else-is_done_answer w ↦ let none = ap {B = ℕ} (λ b. if b then 1 else 0) (sym c.is_done_answer.ensures ∙ w.if-is_done_answer.false) in omega (arith, none)
           ])
           c.loop-place.invariant.effects;
       table = c.loop-place.invariant.table ∙ ap (fold (table_next object) c.loop-place.sessions) rest
           ∙ ap (λ t. fold (table_next object) t (drop (i + 1) more)) (sym after);
-      gone = subst (λ (calls : List (Call g.row.O-Alloc.Denot)). AreCommitted c.answer_to.new.gone.places calls c.split_at.result.0.now) (sym first)
-          (c.in_ok-answer_to.ensures.gone (take i more) c.loop-place.invariant.gone);
+      gone = subst (λ (calls : List (Call g.row.O-Alloc.Denot)). AreCommitted c.append_bucketed_answers.new.committed_flags.committed_marks calls c.split_at.result.0.now) (sym first)
+          (c.in_ok-append_bucketed_answers.ensures.gone (take i more) c.loop-place.invariant.gone);
       answers =
           answers-on object c.loop-place.sessions c.apply.new.self pending more _ i call c.in_ok-answer.answer
-          (answers_behind object c.args.sessions.now pending [] more)
-          c.loop-place.answers.items c.answer_without_buckets.new.answers.items rest first refl answer after
+          (answers_after_committed object c.args.sessions.now pending [] more)
+          c.loop-place.answers.items c.append_unbucketed_answers.new.answers.items rest first refl answer after
           (answers_to-split (take i more) call c.in_ok-answer.answer pending c.split_at.result.0.now c.split_at.result.1.now
-          c.loop-place.answers.items c.answer_to.new.answers.items c.answer_without_buckets.new.answers.items c.split_at.ensures.by_index.0
-          (c.in_ok-answer_to.ensures.answers (take i more) c.loop-place.invariant.gone) c.in_ok-answer_without_buckets.ensures.answers)
+          c.loop-place.answers.items c.append_bucketed_answers.new.answers.items c.append_unbucketed_answers.new.answers.items c.split_at.ensures.by_index.0
+          (c.in_ok-append_bucketed_answers.ensures.answers (take i more) c.loop-place.invariant.gone) c.in_ok-append_unbucketed_answers.ensures.answers)
           c.loop-place.invariant.answers;
     }
 
@@ -60,7 +60,7 @@ returns g c =
     let done : done_after object l.sessions (drop l.place c.args.committed.now) ≡ 0 = ap (done_after object l.sessions) none in
     record {
       table = sym (l.invariant.table ∙ ap (fold (table_next object) l.sessions) none);
-      answers = sym (l.invariant.answers ∙ ap (λ more. items ++ answers_behind object l.sessions c.args.pending.now before more) none ∙ append-nil items);
+      answers = sym (l.invariant.answers ∙ ap (λ more. items ++ answers_after_committed object l.sessions c.args.pending.now before more) none ∙ append-nil items);
       effects = omega (arith, done, l.invariant.effects);
       refused = search rules;
     }

@@ -7,5 +7,5 @@ use Rattle.ring_session.proofs.tickets.committed_among.Goals as goal
 
 pub returns : goal.returns
 returns g c =
-    subst (λ (calls : List (Call g.row.A.Denot)). AreCommitted c.loop-call.gone.places calls c.args.pending.now)
+    subst (λ (calls : List (Call g.row.A.Denot)). AreCommitted c.loop-call.committed_flags.committed_marks calls c.args.pending.now)
     (take_all c.loop-call.call-index c.args.committed.now c.loop-call-test.false) c.loop-call.invariant

@@ -16,5 +16,5 @@ returns-clause-ok g c =
     c.next.ensures.steps in
     let same : c.loop-sent.yielded ≡ c.args.sends.items = sym (map-id c.loop-sent.yielded) ∙ received.0 in
     c.in_ok-append.ensures.items
-    ∙ ap (λ (xs : List (Out g.row.A.Denot)). xs ++ c.args.told.items) c.loop-sent.invariant
-    ∙ ap (λ (xs : List (OutgoingFrame g.row.A.Denot)). map (λ (s : OutgoingFrame g.row.A.Denot). Send s.to s.frame) xs ++ c.args.told.items) same
+    ∙ ap (λ (xs : List (Out g.row.A.Denot)). xs ++ c.args.other_outputs.items) c.loop-sent.invariant
+    ∙ ap (λ (xs : List (OutgoingFrame g.row.A.Denot)). map (λ (s : OutgoingFrame g.row.A.Denot). Send s.to s.frame) xs ++ c.args.other_outputs.items) same

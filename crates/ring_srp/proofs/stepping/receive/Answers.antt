@@ -4,14 +4,14 @@ use Rattle.std.specs.Prelude.{IfOk, OnOk}
 use Rattle.ring_core_spec.specs.State.{StepResult}
 use Rattle.ring_core_spec.specs.Deciding.{Transition, Visit}
 use Rattle.ring_core_spec.specs.declared.input.Input.TheVariants.{Frame as FrameInput}
-use Rattle.ring_srp_transitions.specs.Allowing.{Allows}
+use Rattle.ring_srp_transitions.specs.Allowing.{MayApply}
 use Rattle.ring_srp.specs.Given.{IsGiven}
 use Rattle.ring_srp.proofs.Allowed.{allowed}
 use Rattle.ring_srp.proofs.StepOutputs.{decided_step}
 use Rattle.ring_srp.proofs.stepping.receive.Goals as goal
 
 pub step_with_token-requires-clause-allowed : goal.step_with_token-requires-clause-allowed
-step_with_token-requires-clause-allowed g c = subst (λ (a : Transition g.row.A.Denot). Allows c.args.running_core.now a) (sym c.in-Some.ensures)
+step_with_token-requires-clause-allowed g c = subst (λ (a : Transition g.row.A.Denot). MayApply c.args.running_core.now a) (sym c.in-Some.ensures)
     (allowed c.args.running_core.now (FrameInput c.args.frame.now) c.requires.fits)
 
 pub returns-in-Some-clause-given : goal.returns-in-Some-clause-given

@@ -7,7 +7,7 @@ use Rattle.ring_core_spec.specs.Deciding.{Transition}
 use Rattle.ring_core_spec.proofs.InstalledKept.{done_installed}
 use Rattle.ring_base.proofs.Results.{ok_to}
 use Rattle.ring_srp_transitions.specs.CodeTransitions.{transition_of}
-use Rattle.ring_srp_transitions.specs.Allowing.{Allows}
+use Rattle.ring_srp_transitions.specs.Allowing.{MayApply}
 use Rattle.ring_srp.specs.Given.{IsGiven}
 use Rattle.ring_srp.proofs.Allowed.{allowed}
 use Rattle.ring_srp.proofs.SafeInFront.{may_give}
@@ -15,36 +15,36 @@ use Rattle.ring_srp.proofs.StepOutputs.{decided_step, delivered_core, told_behin
 use Rattle.ring_srp.proofs.stepping.step.Goals as goal
 
 pub apply_and_propose-requires : goal.apply_and_propose-requires
-apply_and_propose-requires g c = subst (λ (a : Transition g.row.A.Denot). Allows c.args.running_core.now a) (sym c.decide-what.ensures)
+apply_and_propose-requires g c = subst (λ (a : Transition g.row.A.Denot). MayApply c.args.running_core.now a) (sym c.decide-chosen_transition.ensures)
     (allowed c.args.running_core.now c.args.input c.requires.fits)
 
 pub give_outputs-requires-clause-ring : goal.give_outputs-requires-clause-ring
 give_outputs-requires-clause-ring g c =
-    c.reached-before.ensures.ring
+    c.ring_progress-before.ensures.ring
     ∙ sym (ap (λ (x : Core g.row.A.Denot). x.installed.ring) c.in_ok-apply_and_propose.ensures.core
-    ∙ ap (λ (x : Configuration). x.ring) (done_installed c.args.running_core.now (transition_of c.decide-what.result)))
+    ∙ ap (λ (x : Configuration). x.ring) (done_installed c.args.running_core.now (transition_of c.decide-chosen_transition.result)))
 
 pub give_outputs-requires-clause-mark : goal.give_outputs-requires-clause-mark
 give_outputs-requires-clause-mark g c =
-    may_give _ _ (transition_of c.decide-what.result) _ (subst (λ (a : Transition g.row.A.Denot). Allows c.args.running_core.now a) (sym c.decide-what.ensures)
-    (allowed c.args.running_core.now c.args.input c.requires.fits)) c.in_ok-apply_and_propose.ensures.core c.reached-before.ensures.front
-    c.reached-before.ensures.safe c.reached-before.ensures.led
+    may_give _ _ (transition_of c.decide-chosen_transition.result) _ (subst (λ (a : Transition g.row.A.Denot). MayApply c.args.running_core.now a) (sym c.decide-chosen_transition.ensures)
+    (allowed c.args.running_core.now c.args.input c.requires.fits)) c.in_ok-apply_and_propose.ensures.core c.ring_progress-before.ensures.front
+    c.ring_progress-before.ensures.safe c.ring_progress-before.ensures.led
 
 pub returns-clause-given : goal.returns-clause-given
 returns-clause-given g c =
-    let a = transition_of c.decide-what.result in
+    let a = transition_of c.decide-chosen_transition.result in
     let sends = c.apply_and_propose.new.sends.items in
     subst (λ (s : StepResult g.row.A.Denot). IfOk c.give_outputs.result (λ told. IsGiven s.outs sends told.items))
-    (decided_step c.args.running_core.now a c.args.input c.decide-what.ensures)
+    (decided_step c.args.running_core.now a c.args.input c.decide-chosen_transition.ensures)
     (told_behind c.args.running_core.now c.apply_and_propose.new.running_core a c.args.sends.now.items sends
-    c.reached-before.result.ring c.reached-before.result.front c.reached-before.result.mark c.give_outputs.result
+    c.ring_progress-before.result.ring c.ring_progress-before.result.front c.ring_progress-before.result.mark c.give_outputs.result
     c.requires.empty c.in_ok-apply_and_propose.ensures.core c.in_ok-apply_and_propose.ensures.sends
-    c.reached-before.ensures.ring c.reached-before.ensures.front c.reached-before.ensures.mark c.give_outputs.ensures.told)
+    c.ring_progress-before.ensures.ring c.ring_progress-before.ensures.front c.ring_progress-before.ensures.mark c.give_outputs.ensures.told)
 
 pub returns-clause-core : goal.returns-clause-core
 returns-clause-core g c =
-    let a = transition_of c.decide-what.result in
+    let a = transition_of c.decide-chosen_transition.result in
     ok_to c.give_outputs.result _ _ _
     (delivered_core c.args.running_core.now c.apply_and_propose.new.running_core a c.in_ok-apply_and_propose.ensures.core
-    ∙ ap (λ (s : StepResult g.row.A.Denot). s.core) (decided_step c.args.running_core.now a c.args.input c.decide-what.ensures))
+    ∙ ap (λ (s : StepResult g.row.A.Denot). s.core) (decided_step c.args.running_core.now a c.args.input c.decide-chosen_transition.ensures))
     c.give_outputs.ensures.core

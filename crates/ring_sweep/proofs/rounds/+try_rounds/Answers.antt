@@ -14,8 +14,8 @@ pub returns-clause-ok : goal.returns-clause-ok
 returns-clause-ok g t c =
     let part = c.args.part in
     let begun = c.round_end-end.ensures in
-    let grows = round_grows part.from c.size.result part.upto (omega (arith, c.if-begin-last.false)) in
-    let within = round_within part.from c.size.result part.upto in
+    let grows = round_grows part.from c.next_round_items.result part.upto (omega (arith, c.if-begin-last.false)) in
+    let within = round_within part.from c.next_round_items.result part.upto in
     let first : part.from ≤ c.round_end-end.result = omega (arith, begun, grows) in
     let last : c.round_end-end.result ≤ part.upto = omega (arith, begun, within) in
     λ order. tried_rest _ c.args.script.now.nodes c.args.script.now.lines.items part.from c.round_end-end.result part.upto

@@ -8,4 +8,4 @@ returns-in-Some-clause-ok g c =
 
 pub returns-in-None-clause-ok : goal.returns-in-None-clause-ok
 returns-in-None-clause-ok g c =
-    tried_whole _ c.args.script.now.nodes c.args.script.now.lines.items c.args.variants c.try_part.result c.try_part.ensures.ok
+    tried_whole _ c.args.script.now.nodes c.args.script.now.lines.items c.args.variants c.try_range.result c.try_range.ensures.ok

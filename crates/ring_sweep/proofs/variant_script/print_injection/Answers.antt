@@ -5,8 +5,8 @@ use Rattle.ring_sweep.proofs.variant_script.print_injection.Goals.{in-Stop+in_ok
 
 pub returns-clause-printed : goal.returns-clause-printed
 returns-clause-printed g c =
-    let so_far : IsGrown (g.O.Write.contents c.args.out.now) (g.O.Write.contents c.match-put_in.out) =
-    elim c.match-put_in.branch [
+    let so_far : IsGrown (g.O.Write.contents c.args.out.now) (g.O.Write.contents c.match-added_lines.out) =
+    elim c.match-added_lines.branch [
       | in-Stop+in_ok-print_bytes-in-Stop+in_ok-print_node-in-Stop w ↦ rw w.out-is
           (grown_more _ _ _ w.in_ok-print_bytes-in-Stop.ensures.printed w.in_ok-print_node-in-Stop.ensures.printed)
       | in-Cut-2+in_ok-print_bytes-in-Cut-2+in_ok-print_node-in-Cut-2+in_ok-print_bytes-in-Cut-2-2+in_ok-print_other_nodes-in-Cut-2 w ↦ rw w.out-is

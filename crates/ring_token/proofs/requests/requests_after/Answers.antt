@@ -21,7 +21,7 @@ loop-requests_left-preserved c =
     let few : length c.as_slice.result.now ≡ length c.loop-requests_left.smallest = ap length c.as_slice.ensures.value in
     let short : length c.loop-requests_left.smallest < 32 = omega arith in
     let some : least_first c.loop-requests_left.requests_left.now c.loop-requests_left.lacking.now ≡ Some c.in-Some.number = sym c.least_first.ensures ∙ c.in-Some.is in
-    rw (c.push.ensures, c.after-requests_left.ensures, c.after-lacking.ensures)
+    rw (c.push.ensures, c.without_first_if-requests_left.ensures, c.without_first_if-lacking.ensures)
     (taken c.loop-requests_left.smallest c.loop-requests_left.requests_left.now c.loop-requests_left.lacking.now _ c.in-Some.number short some
     c.loop-requests_left.invariant)
 

@@ -12,13 +12,13 @@ returns-in_err-first-clause-steps c =
 
 pub returns-clause-steps : goal.returns-clause-steps
 returns-clause-steps c =
-    rw (← c.self.view_is) (elements-taken c.self.inside.unvisited c.in_ok-first.first c.only.result
-    c.less-self-inside.result c.in_ok-first.ensures.found c.in_ok-first.ensures.member c.only.ensures.value
-    c.less-self-inside.ensures.value)
+    rw (← c.self.view_is) (elements-taken c.self.inside.unvisited c.in_ok-first.first c.singleton.result
+    c.without_members-self-inside.result c.in_ok-first.ensures.found c.in_ok-first.ensures.member c.singleton.ensures.value
+    c.without_members-self-inside.ensures.value)
 
 pub returns-clause-goes : goal.returns-clause-goes
 returns-clause-goes c = record {
-  on = λ finite. (tt, tt, fewer c.args.self.now c.in_ok-first.first c.less-self-inside.result (returns-clause-steps c));
+  on = λ finite. (tt, tt, fewer c.args.self.now c.in_ok-first.first c.without_members-self-inside.result (returns-clause-steps c));
   keeps = tt;
   rests = λ finite. tt;
 }

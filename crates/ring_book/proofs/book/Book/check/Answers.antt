@@ -9,7 +9,7 @@ use Rattle.ring_book.proofs.book.Book.check.Goals.{then-has_bytes_at, else-has_b
 pub invariant_of-self : goal.invariant_of-self
 invariant_of-self g c =
     book_texts (node_machine g.O.Object.sequential g.K.BookName.name.group)
-    g.K.BookName.name c.self.inside.lines.items c.self.inside.reserved c.self.inside.ends.items
+    g.K.BookName.name c.self.inside.lines.items c.self.inside.reserved c.self.inside.journal_ends.items
     c.self.inside.answer_indexes.items _ _ _ _ _ c.self.invariant c.has_bytes_at.ensures.room
 
 pub has_bytes_at-requires : goal.has_bytes_at-requires

@@ -8,9 +8,9 @@ invariant_of-self g c =
     let e = c.make_room.ensures in
     book_grows (node_machine g.O.Object.sequential g.K.BookName.name.group)
     g.K.BookName.name c.self.inside.lines.items c.make_room.new.lines.items c.self.inside.reserved
-    c.self.inside.reserved c.self.inside.ends.items c.self.inside.answer_indexes.items
+    c.self.inside.reserved c.self.inside.journal_ends.items c.self.inside.answer_indexes.items
     c.make_room.new.answer_indexes.items _ _ _ _ _ _ _ c.self.invariant e.lines
-    (ap (λ ss. record { total = c.self.inside.total; segments = ss }) e.segments)
+    (ap (λ ss. record { total = c.self.inside.longest_log_len; segments = ss }) e.segments)
     (roomier-length c.self.inside.answer_indexes.items c.make_room.new.answer_indexes.items e.answer_indexes)
     (told_stays c.self.inside.lines.items c.self.inside.reserved c.self.inside.answer_indexes.items c.make_room.new.answer_indexes.items
     e.answer_indexes c.self.invariant.tells)
@@ -24,9 +24,9 @@ invariant_of-self-2 g c =
     let seen = ap (λ b. length b.lines + b.reserved) c.self.view_is in
     book_grows (node_machine g.O.Object.sequential g.K.BookName.name.group)
     g.K.BookName.name c.self.inside.lines.items c.make_room.new.lines.items c.self.inside.reserved
-    (c.self.inside.reserved + 1) c.self.inside.ends.items c.self.inside.answer_indexes.items
+    (c.self.inside.reserved + 1) c.self.inside.journal_ends.items c.self.inside.answer_indexes.items
     c.make_room.new.answer_indexes.items _ _ _ _ _ _ _ c.self.invariant e.lines
-    (ap (λ ss. record { total = c.self.inside.total; segments = ss }) e.segments)
+    (ap (λ ss. record { total = c.self.inside.longest_log_len; segments = ss }) e.segments)
     (roomier-length c.self.inside.answer_indexes.items c.make_room.new.answer_indexes.items e.answer_indexes)
     (told_roomier c.self.inside.lines.items c.self.inside.reserved (c.self.inside.reserved + 1)
     c.self.inside.answer_indexes.items c.make_room.new.answer_indexes.items e.answer_indexes c.self.invariant.tells e.told_room)

@@ -7,15 +7,15 @@ use Rattle.ring_node_spec.specs.Nodes.{Node}
 use Rattle.ring_book.specs.Cells.{IsCell}
 use Rattle.ring_book_lines.specs.Machines.{node_machine}
 use Rattle.ring_book_lines.specs.Runs.{IsStep}
-use Rattle.ring_book.specs.Seen.{CellView}
+use Rattle.ring_book.specs.BookViews.{CellView}
 use Rattle.ring_book.proofs.Journaling.{cell_adds}
 use Rattle.ring_book.proofs.NodeFrameLimits.{node_sound}
 use Rattle.ring_book.proofs.Stops.{memory_runs, other_stopped}
 use Rattle.ring_node_spec.proofs.NodeChanges.{stopped_same}
 use Rattle.ring_book.proofs.cell.Cell.receive.Goals as goal
 
-pub step_of-requires : goal.step_of-requires
-step_of-requires g c = record {
+pub step_with_outputs-requires : goal.step_with_outputs-requires
+step_with_outputs-requires g c = record {
   input = rw c.new-received_frame.ensures c.requires.fits;
   sends = rw c.in-Ok.ensures.sends (c.node_fits_law.ensures.sends c.self.inside.node (Comes c.args.frame.now) c.self.invariant.sound c.requires.fits);
   room = c.self.invariant.text;
@@ -28,32 +28,32 @@ pub invariant_of-self : goal.invariant_of-self
 invariant_of-self g c =
     let m = node_machine g.O.Object.sequential g.K.BookName.name.group in
     let e = c.in-Ok.ensures in
-    let l = c.step_of.result in
-    let stepped : IsStep m c.self.inside.node l c.receive_into.new.self = rw (c.step_of.ensures.step, c.new-received_frame.ensures) record {
+    let l = c.step_with_outputs.result in
+    let stepped : IsStep m c.self.inside.node l c.receive_into.new.self = rw (c.step_with_outputs.ensures.step, c.new-received_frame.ensures) record {
       fits = c.requires.fits;
       makes = (e.runs, e.ok, e.sends, e.answers, e.committed);
       committed = c.committed_len-places.ensures;
     } in
     cell_adds m NodeFits g.K.BookName.name c.self.inside.me _ c.self.inside.node c.receive_into.new.self
-    c.self.inside.journal c.push_reserved.new.self _ _ l c.self.invariant (ap (λ x. x.node) c.step_of.ensures.step) stepped
+    c.self.inside.journal c.push_reserved.new.self _ _ l c.self.invariant (ap (λ x. x.node) c.step_with_outputs.ensures.step) stepped
     (node_sound g.O.Object.sequential g.K.BookName.name.group c.node_fits_law.ensures.step c.node_fits_law.ensures.submit
-    c.self.inside.node l c.receive_into.new.self c.self.invariant.sound stepped) c.step_of.ensures.room c.push_reserved.ensures.ring
+    c.self.inside.node l c.receive_into.new.self c.self.invariant.sound stepped) c.step_with_outputs.ensures.room c.push_reserved.ensures.ring
     c.push_reserved.ensures.sent.0
 
 pub returns-in-Ok : goal.returns-in-Ok
 returns-in-Ok g c =
     let m = node_machine g.O.Object.sequential g.K.BookName.name.group in
     let e = c.in-Ok.ensures in
-    let l = c.step_of.result in
-    let stepped : IsStep m c.self.inside.node l c.receive_into.new.self = rw (c.step_of.ensures.step, c.new-received_frame.ensures) record {
+    let l = c.step_with_outputs.result in
+    let stepped : IsStep m c.self.inside.node l c.receive_into.new.self = rw (c.step_with_outputs.ensures.step, c.new-received_frame.ensures) record {
       fits = c.requires.fits;
       makes = (e.runs, e.ok, e.sends, e.answers, e.committed);
       committed = c.committed_len-places.ensures;
     } in
     rw (← c.self.view_is) record {
       step = l;
-      step_node = ap (λ x. x.node) c.step_of.ensures.step;
-      step_input = ap (λ x. x.input) c.step_of.ensures.step ∙ ap (λ f. Received (Comes f) c.args.at) c.new-received_frame.ensures;
+      step_node = ap (λ x. x.node) c.step_with_outputs.ensures.step;
+      step_input = ap (λ x. x.input) c.step_with_outputs.ensures.step ∙ ap (λ f. Received (Comes f) c.args.at) c.new-received_frame.ensures;
       stepped = stepped;
       journal = c.push_reserved.ensures.sent.0;
       was = c.if-self.false;
@@ -64,15 +64,15 @@ returns-in-Ok g c =
 pub invariant_of-self-in-Memory : goal.invariant_of-self-in-Memory
 invariant_of-self-in-Memory g c =
     let m = node_machine g.O.Object.sequential g.K.BookName.name.group in
-    let l = c.stop-stop.result in
+    let l = c.stop_of_node-stop.result in
     let e = c.in-Err.ensures in
-    let stepped : IsStep m c.self.inside.node l c.receive_into.new.self = rw c.stop-stop.ensures record {
+    let stepped : IsStep m c.self.inside.node l c.receive_into.new.self = rw c.stop_of_node-stop.ensures record {
       fits = tt;
       makes = (memory_runs _ (sym c.in-Memory.is ∙ e.refused), e.err, refl, refl, refl);
       committed = c.committed_len-committed.ensures;
     } in
     cell_adds m NodeFits g.K.BookName.name c.self.inside.me _ c.self.inside.node c.receive_into.new.self
-    c.self.inside.journal c.push_reserved-in-Memory.new.self _ _ l c.self.invariant (ap (λ x. x.node) c.stop-stop.ensures) stepped
+    c.self.inside.journal c.push_reserved-in-Memory.new.self _ _ l c.self.invariant (ap (λ x. x.node) c.stop_of_node-stop.ensures) stepped
     (node_sound g.O.Object.sequential g.K.BookName.name.group c.node_fits_law.ensures.step c.node_fits_law.ensures.submit
     c.self.inside.node l c.receive_into.new.self c.self.invariant.sound stepped) c.self.invariant.text c.push_reserved-in-Memory.ensures.ring
     c.push_reserved-in-Memory.ensures.sent.0
@@ -80,9 +80,9 @@ invariant_of-self-in-Memory g c =
 pub returns-in-Memory : goal.returns-in-Memory
 returns-in-Memory g c =
     let m = node_machine g.O.Object.sequential g.K.BookName.name.group in
-    let l = c.stop-stop.result in
+    let l = c.stop_of_node-stop.result in
     let e = c.in-Err.ensures in
-    let stepped : IsStep m c.self.inside.node l c.receive_into.new.self = rw c.stop-stop.ensures record {
+    let stepped : IsStep m c.self.inside.node l c.receive_into.new.self = rw c.stop_of_node-stop.ensures record {
       fits = tt;
       makes = (memory_runs _ (sym c.in-Memory.is ∙ e.refused), e.err, refl, refl, refl);
       committed = c.committed_len-committed.ensures;
@@ -92,8 +92,8 @@ returns-in-Memory g c =
       no_stop,
       record {
         step = l;
-        step_node = ap (λ x. x.node) c.stop-stop.ensures;
-        step_input = ap (λ x. x.input) c.stop-stop.ensures;
+        step_node = ap (λ x. x.node) c.stop_of_node-stop.ensures;
+        step_input = ap (λ x. x.input) c.stop_of_node-stop.ensures;
         stepped = stepped;
         journal = c.push_reserved-in-Memory.ensures.sent.0;
         was = c.if-self.false;
@@ -108,7 +108,7 @@ invariant_of-self-in_default g c =
     let e = c.in-Err.ensures in
     let other = other_stopped _ c.in-Err.fault e.refused c.in_default.not-Memory in
     let same = e.err ∙ stopped_same c.self.inside.node other.0 in
-    subst (λ (s : Node g.row.O-Alloc.Denot). IsCell m NodeFits g.K.BookName.name c.self.inside.me c.self.inside.ahead
+    subst (λ (s : Node g.row.O-Alloc.Denot). IsCell m NodeFits g.K.BookName.name c.self.inside.me c.self.inside.is_step_unentered
     s c.self.inside.journal (length c.self.inside.text.items + c.self.inside.text.spare)) (sym same) c.self.invariant
 
 pub returns : goal.returns
@@ -118,7 +118,7 @@ returns g c =
     let seen : Node g.row.O-Alloc.Denot → CellView (Node g.row.O-Alloc.Denot) g.row.O-Alloc.Denot =
     λ s. record {
       me = c.self.inside.me;
-      ahead = c.self.inside.ahead;
+      ahead = c.self.inside.is_step_unentered;
       node = s;
       journal = sent c.self.inside.journal;
     } in

@@ -15,24 +15,24 @@ pub invariant_of-self-2 : goal.invariant_of-self-2
 invariant_of-self-2 g c =
     let m = node_machine g.O.Object.sequential g.K.BookName.name.group in
     let e = c.in_ok-ticket.ensures in
-    let l = c.called.result in
-    let stepped : IsStep m c.self.inside.node l c.submit_on.new.self = rw c.called.ensures record {
-      fits = c.call_keeps_law.ensures c.requires;
+    let l = c.submit_of.result in
+    let stepped : IsStep m c.self.inside.node l c.submit_borrowed.new.self = rw c.submit_of.ensures record {
+      fits = c.call_fits_snapshot_law.ensures c.requires;
       makes = (e.taken, e.ok, refl, refl, refl);
       committed = c.committed_len-places.ensures;
     } in
-    cell_adds m NodeFits g.K.BookName.name c.self.inside.me _ c.self.inside.node c.submit_on.new.self
-    c.self.inside.journal c.push_reserved.new.self _ _ l c.self.invariant (ap (λ x. x.node) c.called.ensures) stepped
+    cell_adds m NodeFits g.K.BookName.name c.self.inside.me _ c.self.inside.node c.submit_borrowed.new.self
+    c.self.inside.journal c.push_reserved.new.self _ _ l c.self.invariant (ap (λ x. x.node) c.submit_of.ensures) stepped
     (node_sound g.O.Object.sequential g.K.BookName.name.group c.node_fits_law.ensures.step c.node_fits_law.ensures.submit
-    c.self.inside.node l c.submit_on.new.self c.self.invariant.sound stepped) c.self.invariant.text c.push_reserved.ensures.ring c.push_reserved.ensures.sent.0
+    c.self.inside.node l c.submit_borrowed.new.self c.self.invariant.sound stepped) c.self.invariant.text c.push_reserved.ensures.ring c.push_reserved.ensures.sent.0
 
 pub returns-clause-given : goal.returns-clause-given
 returns-clause-given g c =
     let m = node_machine g.O.Object.sequential g.K.BookName.name.group in
     let e = c.in_ok-ticket.ensures in
-    let l = c.called.result in
-    let stepped : IsStep m c.self.inside.node l c.submit_on.new.self = rw c.called.ensures record {
-      fits = c.call_keeps_law.ensures c.requires;
+    let l = c.submit_of.result in
+    let stepped : IsStep m c.self.inside.node l c.submit_borrowed.new.self = rw c.submit_of.ensures record {
+      fits = c.call_fits_snapshot_law.ensures c.requires;
       makes = (e.taken, e.ok, refl, refl, refl);
       committed = c.committed_len-places.ensures;
     } in
@@ -40,8 +40,8 @@ returns-clause-given g c =
       e.ticket,
       record {
         step = l;
-        step_node = ap (λ x. x.node) c.called.ensures;
-        step_input = ap (λ x. x.input) c.called.ensures;
+        step_node = ap (λ x. x.node) c.submit_of.ensures;
+        step_input = ap (λ x. x.input) c.submit_of.ensures;
         stepped = stepped;
         journal = c.push_reserved.ensures.sent.0;
         was = c.if-self.false;
@@ -53,4 +53,4 @@ returns-clause-given g c =
 pub returns-in_err-ticket-clause-given : goal.returns-in_err-ticket-clause-given
 returns-in_err-ticket-clause-given g c =
     let p = err_from_is_err_and c.from_residual.result c.from_residual.ensures.1 in
-    rw (p.1, p.2, ← c.self.view_is) (node_refuses c.self.inside.ahead _ _ c.if-self.false c.in_err-ticket.ensures.refused)
+    rw (p.1, p.2, ← c.self.view_is) (node_refuses c.self.inside.is_step_unentered _ _ c.if-self.false c.in_err-ticket.ensures.refused)

@@ -8,6 +8,6 @@ abbrev pub invariant-loop : goal.invariant-loop
 invariant-loop g l = record {
   kept : Keeps (left_of l.fn.self (g.R.Read.remaining l.fn.input)) (left_of l.self (g.R.Read.remaining l.input));
   ended : IsEndRight l.self (g.R.Read.remaining l.input);
-  taken : l.self.taken ≡ 0;
-  position : l.self.position ≡ l.fn.self.position;
+  taken : l.self.taken_bytes ≡ 0;
+  position : l.self.next_frame_offset ≡ l.fn.self.next_frame_offset;
 }

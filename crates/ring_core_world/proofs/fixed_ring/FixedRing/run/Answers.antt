@@ -30,4 +30,4 @@ pub returns-clause-outs : goal.returns-clause-outs
 returns-clause-outs g c =
     let is : c.self.inside.cores ≡ Some c.in_ok-cores.cores = grind arith in
     let world = runs_ring c.self.inside.fixed.count c.in_ok-cores.cores c.self.inside.cores c.args.events.now c.self.invariant is in
-    rw (← c.self.view_is) (subst (λ (w : World g.row.A.Denot). IfOk c.run_acting.result (λ outs. outs.items ≡ w.outs)) world c.run_acting.ensures.outs)
+    rw (← c.self.view_is) (subst (λ (w : World g.row.A.Denot). IfOk c.run_events.result (λ outs. outs.items ≡ w.outs)) world c.run_events.ensures.outs)

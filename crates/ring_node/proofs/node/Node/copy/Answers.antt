@@ -10,7 +10,7 @@ invariant_of-result g c =
     let core : c.in_ok-core-2.core ≡ c.self.inside.core = c.in_ok-core-2.ensures.first ∙ c.in_ok-core.ensures.cases in
     let replica : c.in_ok-core-2.replica ≡ c.self.inside.replica =
     subst (λ made. IfOk made (λ copy. copy ≡ c.self.inside.replica)) c.in_ok-core-2.ensures.second c.copy.ensures.ok in
-    let ended : c.in_ok-ended.ended.value ≡ c.self.inside.ended.value = c.in_ok-ended.ensures.cases in
+    let ended : c.in_ok-core_before_stop.core_before_stop.value ≡ c.self.inside.core_before_stop.value = c.in_ok-core_before_stop.ensures.cases in
     rw (core, replica, ended) c.self.invariant
 
 pub returns-clause-ok : goal.returns-clause-ok
@@ -18,7 +18,7 @@ returns-clause-ok g c =
     let core : c.in_ok-core-2.core ≡ c.self.inside.core = c.in_ok-core-2.ensures.first ∙ c.in_ok-core.ensures.cases in
     let replica : c.in_ok-core-2.replica ≡ c.self.inside.replica =
     subst (λ made. IfOk made (λ copy. copy ≡ c.self.inside.replica)) c.in_ok-core-2.ensures.second c.copy.ensures.ok in
-    let ended : c.in_ok-ended.ended.value ≡ c.self.inside.ended.value = c.in_ok-ended.ensures.cases in
+    let ended : c.in_ok-core_before_stop.core_before_stop.value ≡ c.self.inside.core_before_stop.value = c.in_ok-core_before_stop.ensures.cases in
     rw (core, replica, ended) c.self.view_is
 
 pub returns-in_err-core-clause-refused : goal.returns-in_err-core-clause-refused

@@ -14,5 +14,5 @@ pub returns : goal.returns
 returns g c =
     let p = c.args.self.now.plan in
     let held = c.args.window.now.held in
-    rw (c.regular.ensures, c.transitional.ensures, c.past_gap.ensures) (sym (cond-true (is_complete p held) (Some (delivery p held)) None
+    rw (c.regular_numbers.ensures, c.transitional_numbers.ensures, c.numbers_past_gap.ensures) (sym (cond-true (is_complete p held) (Some (delivery p held)) None
     (sym c.is_complete.ensures ∙ c.if-not-is_complete.false)))

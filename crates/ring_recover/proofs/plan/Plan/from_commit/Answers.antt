@@ -14,8 +14,8 @@ invariant_of-result g c =
     let rs = c.as_slice-reports.result.now in
     let reports : rs ≡ reports_of old c.args.token.now.entries = c.as_slice-reports.ensures.value ∙ c.reports_of-reports.ensures
     ∙ ap (reports_of old) c.as_slice-entries.ensures.value in
-    let none : none_behind (safe_of rs) rs ≡ true = ap (λ n. none_behind n rs) (sym c.greatest_mark-safe.ensures) ∙ sym c.none_behind.ensures
-    ∙ c.if-not-none_behind.false in
+    let none : none_behind (safe_of rs) rs ≡ true = ap (λ n. none_behind n rs) (sym c.greatest_mark-safe.ensures) ∙ sym c.all_fronts_reach.ensures
+    ∙ c.if-not-all_fronts_reach.false in
     rw (c.ghost_of-plan.ensures, c.nothing_seen.ensures) record {
       old_is = refl;
       transitional_members_is = c.transitional_members_among.ensures
@@ -24,7 +24,7 @@ invariant_of-result g c =
       safe_is = c.greatest_mark-safe.ensures ∙ ap safe_of reports;
       low_is = c.least_front.ensures ∙ ap (λ (es : List CommitEntry). least (map (λ (e : CommitEntry). e.front) es)) reports;
       sound = omega (arith, c.greatest_mark-safe.ensures, c.least_front.ensures, safe_low rs none);
-      known_is = λ j l. c.known_after.ensures j l ∙ ap (list_any (is_reported (c.greatest_mark-safe.result + 1 + j))) reports;
+      known_is = λ j l. c.reported_offsets_after.ensures j l ∙ ap (list_any (is_reported (c.greatest_mark-safe.result + 1 + j))) reports;
       wrapped_is = λ j l. c.new.ensures j;
       ended_is = refl;
     }

@@ -17,5 +17,5 @@ returns g c =
     let same : high ≡ safe c.args.self.now.plan = c.self.invariant.safe_is ∙ ap (λ (x : RecoveryState g.row.A.Denot). safe x.plan) c.self.view_is in
     let low : high < n = omega (arith, c.requires.low, same) in
     let near : n - high - 1 < 256 = omega (arith, c.requires.high, same, low) in
-    c.has.ensures ∙ c.self.invariant.wrapped_is (n - high - 1) near ∙ ap (λ m. is_wrapped r.seen r.plan.old m) (offset high n low)
+    c.contains_offset.ensures ∙ c.self.invariant.wrapped_is (n - high - 1) near ∙ ap (λ m. is_wrapped r.seen r.plan.old m) (offset high n low)
     ∙ ap (λ (x : RecoveryState g.row.A.Denot). is_wrapped x.seen x.plan.old n) c.self.view_is

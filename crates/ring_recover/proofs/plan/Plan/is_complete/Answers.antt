@@ -7,7 +7,7 @@ use Rattle.ring_recover.proofs.plan.Plan.is_complete.Goals as goal
 
 pub returns-then-self-front : goal.returns-then-self-front
 returns-then-self-front g c =
-    rw (← c.self.view_is) (c.are_held.ensures ∙ complete_front _ _ _ _ _ _ _ _ _ c.self.invariant c.args.window.now (c.requires.ring
+    rw (← c.self.view_is) (c.holds_all_offsets.ensures ∙ complete_front _ _ _ _ _ _ _ _ _ c.self.invariant c.args.window.now (c.requires.ring
     ∙ sym (ap (λ (r : RecoveryState g.row.A.Denot). r.plan.old) c.self.view_is)) (omega (arith, c.if-self-front.true, c.front.ensures)))
 
 pub returns-else-self-front : goal.returns-else-self-front

@@ -2,15 +2,15 @@
 use Rattle.std.proofs.Common.{◌≡◌, ◌+◌, ◌<◌, ◌≤◌, true, false, refl, sym, ap, ◌∙◌, arith}
 use Rattle.std.specs.Prelude.{not, ◌&&◌}
 use Rattle.ring_window.specs.Held.{highest}
-use Rattle.ring_window.specs.Windows.{kept}
+use Rattle.ring_window.specs.Windows.{message_above_mark}
 use Rattle.ring_recover.specs.Plans.{safe}
-use Rattle.ring_recover.specs.RecoveryState.{RecoveryState, is_users, next_to_wrap}
+use Rattle.ring_recover.specs.RecoveryState.{RecoveryState, is_user_message, next_to_wrap}
 use Rattle.ring_recover.proofs.HandedNext.{is_left, search_on, search_ends, left_here, neither}
-use Rattle.ring_recover.proofs.plan.Plan.to_wrap.Goals.{else-not-has-via-then-not-has+else-has_users, else-not-has-via-else-not-has}
+use Rattle.ring_recover.proofs.plan.Plan.to_wrap.Goals.{else-not-contains_offset-via-then-not-contains_offset+else-has_user_message, else-not-contains_offset-via-else-not-contains_offset}
 use Rattle.ring_recover.proofs.plan.Plan.to_wrap.Goals as goal
 
-pub returns-then-has_users : goal.returns-then-has_users
-returns-then-has_users g c =
+pub returns-then-has_user_message : goal.returns-then-has_user_message
+returns-then-has_user_message g c =
     let r : RecoveryState g.row.A.Denot = record { me = c.self.inside.me; plan = c.self.inside.plan.value; seen = c.self.inside.seen.value } in
     let w = c.args.window.now in
     let k = c.loop-before.before in
@@ -21,7 +21,7 @@ returns-then-has_users g c =
     let here : is_left r w.held (k + 1) ≡ (true && not false) =
     left_here r _ _ _ high _ _ c.self.inside.wrapped.words _ w k true false c.self.invariant ring (omega
     (arith, c.requires.mark, same)) c.loop-before.invariant.1 (omega (arith, c.requires.near, same))
-    (sym c.if-has_users.true ∙ c.has_users.ensures) (sym c.if-not-has.true ∙ c.has.ensures) in
+    (sym c.if-has_user_message.true ∙ c.has_user_message.ensures) (sym c.if-not-contains_offset.true ∙ c.contains_offset.ensures) in
     sym (search_ends r w.held k (highest w.held w.ring) top here) ∙ c.loop-before.invariant.0
     ∙ ap (λ (x : RecoveryState g.row.A.Denot). next_to_wrap x w.held) c.self.view_is
 
@@ -36,17 +36,17 @@ loop-before-preserved g c =
     let top : k < highest w.held w.ring = omega (arith, c.loop-before-test.true, c.highest-before-end.ensures) in
     let mark : w.mark ≤ high = omega (arith, c.requires.mark, same) in
     let near : k < high + 256 = omega (arith, c.requires.near, same) in
-    elim c.else-not-has.branch [
-      | else-not-has-via-then-not-has+else-has_users v ↦ (
+    elim c.else-not-contains_offset.branch [
+      | else-not-contains_offset-via-then-not-contains_offset+else-has_user_message v ↦ (
         sym (search_on r w.held k (highest w.held w.ring) top
             (left_here r _ _ _ high _ _ c.self.inside.wrapped.words _ w k false false c.self.invariant ring mark c.loop-before.invariant.1 near
-            (sym v.if-has_users.false ∙ v.has_users.ensures) (sym v.if-not-has.true ∙ c.has.ensures))) ∙ c.loop-before.invariant.0,
+            (sym v.if-has_user_message.false ∙ v.has_user_message.ensures) (sym v.if-not-contains_offset.true ∙ c.contains_offset.ensures))) ∙ c.loop-before.invariant.0,
         omega (arith, c.loop-before.invariant.1),
       )
-      | else-not-has-via-else-not-has v ↦ (
-        sym (search_on r w.held k (highest w.held w.ring) top (left_here r _ _ _ high _ _ c.self.inside.wrapped.words _ w k (is_users (kept w
+      | else-not-contains_offset-via-else-not-contains_offset v ↦ (
+        sym (search_on r w.held k (highest w.held w.ring) top (left_here r _ _ _ high _ _ c.self.inside.wrapped.words _ w k (is_user_message (message_above_mark w
             (k + 1))) true c.self.invariant ring mark c.loop-before.invariant.1 near
-            refl (sym v.if-not-has.false ∙ c.has.ensures) ∙ neither (is_users (kept w (k + 1))))) ∙ c.loop-before.invariant.0,
+            refl (sym v.if-not-contains_offset.false ∙ c.contains_offset.ensures) ∙ neither (is_user_message (message_above_mark w (k + 1))))) ∙ c.loop-before.invariant.0,
         omega (arith, c.loop-before.invariant.1),
       )
     ]

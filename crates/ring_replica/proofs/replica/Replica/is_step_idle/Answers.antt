@@ -16,12 +16,12 @@ returns g c =
     let object = g.O.Object.sequential in
     let r = c.args.self.now in
     let b = ready c.self.invariant c.self.view_is c.requires.done c.requires.runs in
-    let ripe = c.is_due_to_trim.ensures ∙ ap (λ (l : Log _). is_due_to_trim l) (c.log.ensures ∙ ap (λ (h : HeldLog _). h.log) c.held.ensures.held
-    ∙ c.held.ensures.log b.consistent ∙ ap (λ (k : KnownLog _). retained_log k) (kept-was b)) in
+    let ripe = c.is_due_to_trim.ensures ∙ ap (λ (l : Log _). is_due_to_trim l) (c.log.ensures ∙ ap (λ (h : HeldLog _). h.log) c.stored_log.ensures.held
+    ∙ c.stored_log.ensures.log b.consistent ∙ ap (λ (k : KnownLog _). retained_log k) (kept-was b)) in
     record {
       value = ap not ripe;
-      is_step_idle = λ t. resting object r c.requires.done (sound-was b (c.held.ensures.sound b.consistent))
+      is_step_idle = λ t. resting object r c.requires.done (sound-was b (c.stored_log.ensures.sound b.consistent))
           (ap (λ (k : KnownLog _). is_restored object k) (sym (kept-was b)) ∙ (b.counted.kept.runs b.runs).restored)
           (not-true (is_due_to_trim (retained_log (replica_known_log r))) (ap not (sym ripe) ∙ t));
-      steady = steady-was b (c.held.ensures.steady b.consistent);
+      steady = steady-was b (c.stored_log.ensures.steady b.consistent);
     }

@@ -9,7 +9,7 @@ use Rattle.ring_replica.proofs.ReplicaSteps.{applied-is, effects-are, restored-n
 use Rattle.ring_replica.proofs.ReplicaStepEnds.{carries-as, ended-counted, ended-told, ended-step}
 use Rattle.ring_base.proofs.Results.{on-err}
 use Rattle.ring_base.proofs.Cases.{some_has}
-use Rattle.ring_replica.specs.declared.given.ReplicaOutput.{ReplicaOutput}
+use Rattle.ring_replica.specs.declared.replica_output.ReplicaOutput.{ReplicaOutput}
 use Rattle.ring_replica.proofs.replica.Replica.step_into.Goals as goal
 
 pub prove-unreachable-requires : goal.prove-unreachable-requires
@@ -75,7 +75,7 @@ returns-in_default g c =
     (sym c.is_consistent.ensures.value ∙ c.if-not-is_consistent.false) c.in_ok-apply_outputs.ensures.onward (c.is_consistent-is_consistent.ensures.log b.consistent) c.is_consistent.ensures.log
     (c.is_consistent-is_consistent.ensures.steady b.consistent) c.is_consistent.ensures.steady c.in_ok-apply_outputs.ensures.sound c.in_ok-apply_outputs.ensures.epochs in
     let lost = sym c.in_ok-effects_in_step.ensures.fits ∙ ap is_some c.in_default.is in
-    let nothing = step-lost m (ap (is_table_held g.O.Object.sequential) (sym c.held.ensures.held) ∙ lost) in
+    let nothing = step-lost m (ap (is_table_held g.O.Object.sequential) (sym c.stored_log.ensures.held) ∙ lost) in
     let same = c.in_ok-effects_in_step.ensures.nothing lost in
     record {
       ok = stopped-same c.self.view_is c.apply_outputs.ensures.group c.apply_outputs.ensures.me ∙ nothing.replica;
@@ -93,7 +93,7 @@ invariant_of-self-in_err-trim_if_due g c =
     let s = c.self.inside in
     let b = ready c.self.invariant c.self.view_is c.requires.done c.requires.runs in
     let stays = b.none ∙ sym c.in_err-trim_if_due.ensures.stays in
-    subst (λ (l : Option (Log _)). IsCounted g.O.Object.sequential c.trim_if_due.new.replication c.apply_committed.new.sessions s.tickets l s.places s.committed s.trimmed
+    subst (λ (l : Option (Log _)). IsCounted g.O.Object.sequential c.trim_if_due.new.replication c.apply_committed.new.sessions s.tickets l s.log_len_at_step s.committed s.trimmed
     s.effects s.effects_in_step true s.history.value) stays
     (halted-later c.self.invariant c.apply_outputs.new.self c.record_sends.new.self c.trim_if_due.new.replication _ b.none c.apply_outputs.ensures.group c.apply_outputs.ensures.front
     c.record_sends.ensures c.in_err-trim_if_due.ensures.err)
@@ -114,14 +114,14 @@ invariant_of-self-2 g c =
     (c.is_consistent-is_consistent.ensures.steady b.consistent) c.is_consistent.ensures.steady c.in_ok-apply_outputs.ensures.sound c.in_ok-apply_outputs.ensures.epochs in
     let x = c.in-Some.effects_in_step in
     let fits = sym c.in_ok-effects_in_step.ensures.fits ∙ ap is_some c.in-Some.is in
-    let carried_frames = carries-as {object = object} c.held.ensures.held (record {
+    let carried_frames = carries-as {object = object} c.stored_log.ensures.held (record {
       fits = fits;
       applied = c.in_ok-effects_in_step.ensures.table fits;
       given = c.in_ok-effects_in_step.ensures.answers fits;
       committed = c.in_ok-effects_in_step.ensures.committed fits;
       counted = some_has _ _ x c.in-Some.is c.in_ok-effects_in_step.ensures.effects_in_step;
     }) in
-    ended-counted m c.apply_committed.new.given.due.items c.apply_committed.new.sessions (applied-is m carried_frames.applied) (restored-now m carried_frames.fits) (effects-are m carried_frames.counted)
+    ended-counted m c.apply_committed.new.replica_output.due.items c.apply_committed.new.sessions (applied-is m carried_frames.applied) (restored-now m carried_frames.fits) (effects-are m carried_frames.counted)
     c.record_sends.ensures c.in_ok-trim_if_due.ensures.ok c.in_ok-trim_if_due.ensures.dropped
 
 pub returns : goal.returns
@@ -134,7 +134,7 @@ returns g c =
     (c.is_consistent-is_consistent.ensures.steady b.consistent) c.is_consistent.ensures.steady c.in_ok-apply_outputs.ensures.sound c.in_ok-apply_outputs.ensures.epochs in
     let x = c.in-Some.effects_in_step in
     let fits = sym c.in_ok-effects_in_step.ensures.fits ∙ ap is_some c.in-Some.is in
-    let carried_frames = carries-as {object = object} c.held.ensures.held (record {
+    let carried_frames = carries-as {object = object} c.stored_log.ensures.held (record {
       fits = fits;
       applied = c.in_ok-effects_in_step.ensures.table fits;
       given = c.in_ok-effects_in_step.ensures.answers fits;
@@ -144,14 +144,14 @@ returns g c =
     let due = c.in_ok-effects_in_step.ensures.due
     ∙ due-are m carried_frames.fits c.pending.ensures c.requires.no_due (c.in_ok-apply_outputs.ensures.due m.consistent) in
     record {
-      ok = ended-step m carried_frames.fits due (ended-told m c.apply_committed.new.given.due.items c.apply_committed.new.sessions (applied-is m carried_frames.applied)
+      ok = ended-step m carried_frames.fits due (ended-told m c.apply_committed.new.replica_output.due.items c.apply_committed.new.sessions (applied-is m carried_frames.applied)
           (restored-now m carried_frames.fits) (effects-are m carried_frames.counted) c.record_sends.ensures c.in_ok-trim_if_due.ensures.ok
           c.in_ok-trim_if_due.ensures.dropped);
       due = due-is m carried_frames.fits due;
       answers = answers-told m carried_frames.fits c.pending-2.ensures carried_frames.given;
       committed = committed-told m carried_frames.fits carried_frames.committed;
-      restored = restored-told m carried_frames.fits (c.restored_places-given.ensures
-          ∙ ap (λ (h : HeldLog _). if is_some h.before then Some h.log.trimmed else None) c.held-2.ensures.held);
+      restored = restored-told m carried_frames.fits (c.restored_places-replica_output.ensures
+          ∙ ap (λ (h : HeldLog _). if is_some h.before then Some h.log.trimmed else None) c.stored_log-2.ensures.held);
       steady = steady-was b (c.is_consistent-is_consistent.ensures.steady b.consistent);
       err = tt;
       refused = tt;

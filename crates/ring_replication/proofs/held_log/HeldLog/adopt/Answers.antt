@@ -44,18 +44,18 @@ pub returns-in-Restored : goal.returns-in-Restored
 returns-in-Restored g c =
     let s = c.self.inside in
     let r = restored-is s.log c.args.base c.in-Restored.snapshot c.in-Restored.before (sym c.in-Restored.is ∙ c.in_ok-adopt.ensures.how) in
-    let now = c.restored.ensures in
+    let now = c.note_restore.ensures in
     let log_is = now.log ∙ c.in_ok-adopt.ensures.log in
     let of : Log _ → Log _ → _ → HeldLog _ = λ l b bs. record { log = l; before = Some (unwrap_or s.before b); snapshot = bs } in
-    let same : c.restored.new.self ≡ of c.restored.new.self.log c.in-Restored.before c.in-Restored.snapshot =
-    ap (λ o. record { log = c.restored.new.self.log; before = o; snapshot = c.restored.new.self.snapshot }) now.before
-    ∙ ap (λ bs. of c.restored.new.self.log c.in-Restored.before bs) now.snapshot in
+    let same : c.note_restore.new.self ≡ of c.note_restore.new.self.log c.in-Restored.before c.in-Restored.snapshot =
+    ap (λ o. record { log = c.note_restore.new.self.log; before = o; snapshot = c.note_restore.new.self.snapshot }) now.before
+    ∙ ap (λ bs. of c.note_restore.new.self.log c.in-Restored.before bs) now.snapshot in
     record {
       fits = sym (ap (λ (h : HeldLog _). is_adoptable h.log c.args.base) (sym c.self.view_is) ∙ r.may);
-      held = λ may. same ∙ held-restored (record { log = s.log; before = s.before; snapshot = s.snapshot }) c.args.ring c.args.base c.restored.new.self.log
+      held = λ may. same ∙ held-restored (record { log = s.log; before = s.before; snapshot = s.snapshot }) c.args.ring c.args.base c.note_restore.new.self.log
           c.in-Restored.before c.in-Restored.snapshot r log_is ∙ ap (λ (h : HeldLog _). held_log_adopted h c.args.ring c.args.base) c.self.view_is;
-      front = subst (λ (h : HeldLog _). IsListPrefix (committed_calls (reported_log h)) (committed_calls (reported_log c.restored.new.self))) c.self.view_is
-          (subst (λ (o : Option (Log _)). IsListPrefix (committed_calls (unwrap_or s.before s.log)) (committed_calls (unwrap_or o c.restored.new.self.log)))
+      front = subst (λ (h : HeldLog _). IsListPrefix (committed_calls (reported_log h)) (committed_calls (reported_log c.note_restore.new.self))) c.self.view_is
+          (subst (λ (o : Option (Log _)). IsListPrefix (committed_calls (unwrap_or s.before s.log)) (committed_calls (unwrap_or o c.note_restore.new.self.log)))
           (sym now.before) (subst (λ (l : Log _). IsListPrefix (committed_calls (unwrap_or s.before s.log)) (committed_calls (unwrap_or s.before l))) (sym r.before)
           (prefix_self (committed_calls (unwrap_or s.before s.log)))));
       refused = tt;

@@ -18,8 +18,8 @@ loop-out-init g c = record {
   me = refl;
 }
 
-pub go-requires : goal.go-requires
-go-requires g c =
+pub apply_output_if_consistent-requires : goal.apply_output_if_consistent-requires
+apply_output_if_consistent-requires g c =
     let items = c.args.outs.now in
     let stands = slice_get_read items (length items) c.loop-out.out-index c.out-item.result refl c.loop-out-test.true c.out-item.is in
     record { rises = λ consistent. rises-next c.args.self.now.epochs items c.loop-out.out-index c.requires.rises stands (c.loop-out.invariant.walked.node_epochs consistent) }
@@ -27,22 +27,22 @@ go-requires g c =
 pub loop-out-preserved : goal.loop-out-preserved
 loop-out-preserved g c =
     let i = c.loop-out.invariant in
-    let e = c.in_ok-go.ensures in
+    let e = c.in_ok-apply_output_if_consistent.ensures in
     let items = c.args.outs.now in
     let at = slice_get_read items (length items) c.loop-out.out-index c.out-item.result refl c.loop-out-test.true c.out-item.is in
     record {
-      walked = walked-all (walked-more c.out-item.result i.walked i.group c.go.ensures.group i.me (ap (λ (l : Log _). l.trimmed) c.requires.log) refl e.sound e.epochs
+      walked = walked-all (walked-more c.out-item.result i.walked i.group c.apply_output_if_consistent.ensures.group i.me (ap (λ (l : Log _). l.trimmed) c.requires.log) refl e.sound e.epochs
           e.onward e.due) (sym (take-more items c.loop-out.out-index c.out-item.result at));
       front = prefix_trans (committed_calls (reported_log c.args.self.now.held)) (committed_calls (reported_log c.loop-out.self.held))
-          (committed_calls (reported_log c.go.new.self.held)) i.front c.go.ensures.front;
-      group = c.go.ensures.group ∙ i.group;
-      me = c.go.ensures.me ∙ i.me;
+          (committed_calls (reported_log c.apply_output_if_consistent.new.self.held)) i.front c.apply_output_if_consistent.ensures.front;
+      group = c.apply_output_if_consistent.ensures.group ∙ i.group;
+      me = c.apply_output_if_consistent.ensures.me ∙ i.me;
     }
 
-pub returns-in_err-go-clause-front : goal.returns-in_err-go-clause-front
-returns-in_err-go-clause-front g c =
+pub returns-in_err-apply_output_if_consistent-clause-front : goal.returns-in_err-apply_output_if_consistent-clause-front
+returns-in_err-apply_output_if_consistent-clause-front g c =
     prefix_trans (committed_calls (reported_log c.args.self.now.held)) (committed_calls (reported_log c.loop-out.self.held))
-    (committed_calls (reported_log c.go.new.self.held)) c.loop-out.invariant.front c.go.ensures.front
+    (committed_calls (reported_log c.apply_output_if_consistent.new.self.held)) c.loop-out.invariant.front c.apply_output_if_consistent.ensures.front
 
 pub returns : goal.returns
 returns g c =

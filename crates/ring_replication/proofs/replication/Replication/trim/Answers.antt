@@ -17,5 +17,5 @@ invariant_of-self-2 g c = λ consistent.
     kept-as s.fixed _ _ _ _ s.ring s.stage s.stage s.mark s.watermarks.items s.watermarks.items
     (kept-epochs_with_trim s.fixed s.epochs.value s.held s.ring s.stage s.mark s.watermarks.items c.in-Some.snapshot (c.self.invariant consistent) closed
     (ripe-more s.held.log ripe))
-    (c.dropped.ensures ∙ ap (λ n. epochs_with_trim n s.epochs.value) (c.committed_length.ensures ∙ ap (λ (l : Log _). l.committed) c.in_ok-log.ensures.dropped))
+    (c.history_with_trim.ensures ∙ ap (λ n. epochs_with_trim n s.epochs.value) (c.committed_length.ensures ∙ ap (λ (l : Log _). l.committed) c.in_ok-log.ensures.dropped))
     c.in_ok-log.ensures.ok refl refl

@@ -24,18 +24,18 @@ returns-in_err-apply-in-Some-clause-err g c =
     rw refused.1 (ap (λ (es : List (ℕ × LastCall)). table_of es c.apply.new.object) same
     ∙ ap (table_of c.self.inside.sessions.entries) c.in_err-apply-in-Some.ensures.content ∙ c.self.view_is)
 
-pub invariant_of-self-then-is_next : goal.invariant_of-self-then-is_next
-invariant_of-self-then-is_next g c =
+pub invariant_of-self-then-is_next_number : goal.invariant_of-self-then-is_next_number
+invariant_of-self-then-is_next_number g c =
     let number : c.args.call.now.number ≡ c.in-Some.last.now.number + 1 = eqb-true c.args.call.now.number
-    (c.in-Some.last.now.number + 1) (sym c.if-is_next.ensures) in
+    (c.in-Some.last.now.number + 1) (sym c.if-is_next_number.ensures) in
     let kept = c.in_ok-apply-in-Some.ensures.kept in
     IsTable-known c.self.inside.sessions.entries _ c.args.call.now.client c.in-Some.last.now c.apply.new.self
     c.self.inside.object _ c.self.invariant c.get_mut.ensures.ordered (sym c.in-Some.ensures.value)
     (c.get_mut.follows.holds c.apply.new.self).0
     (omega (arith, number, ap (λ (last : LastCall). last.number) kept))
 
-pub invariant_of-self-else-is_next : goal.invariant_of-self-else-is_next
-invariant_of-self-else-is_next g c =
+pub invariant_of-self-else-is_next_number : goal.invariant_of-self-else-is_next_number
+invariant_of-self-else-is_next_number g c =
     IsTable-content c.self.inside.sessions.entries _ c.self.inside.object _ c.self.invariant
     (written_same c.self.inside.sessions.entries _ c.args.call.now.client c.in-Some.last.now c.in-Some.last.now
     (c.get_mut.follows.holds c.in-Some.last.now).0 (sym c.in-Some.ensures.value) refl)
@@ -43,7 +43,7 @@ invariant_of-self-else-is_next g c =
 pub returns-in_ok-apply-in-Some-clause-ok : goal.returns-in_ok-apply-in-Some-clause-ok
 returns-in_ok-apply-in-Some-clause-ok g c =
     let number : c.args.call.now.number ≡ c.in-Some.last.now.number + 1 = eqb-true c.args.call.now.number
-    (c.in-Some.last.now.number + 1) (sym c.if-is_next.ensures) in
+    (c.in-Some.last.now.number + 1) (sym c.if-is_next_number.ensures) in
     let kept = c.in_ok-apply-in-Some.ensures.kept in
     rw (← c.self.view_is) (next-known g.O.Object.sequential
     c.self.inside.sessions.entries _ c.self.inside.object _ c.args.call.now c.in-Some.last.now
@@ -52,25 +52,25 @@ returns-in_ok-apply-in-Some-clause-ok g c =
     ∙ ap (set_value (is_at (nat_cmp c.args.call.now.client)) c.self.inside.sessions.entries) kept)
     c.in_ok-apply-in-Some.ensures.applied)
 
-pub returns-else-is_next-clause-ok : goal.returns-else-is_next-clause-ok
-returns-else-is_next-clause-ok g c =
+pub returns-else-is_next_number-clause-ok : goal.returns-else-is_next_number-clause-ok
+returns-else-is_next_number-clause-ok g c =
     rw (← c.self.view_is) (next-other g.O.Object.sequential c.self.inside.sessions.entries _ c.self.inside.object
-    c.args.call.now c.in-Some.last.now (sym c.in-Some.ensures.value) c.if-is_next.ensures
+    c.args.call.now c.in-Some.last.now (sym c.in-Some.ensures.value) c.if-is_next_number.ensures
     (written_same c.self.inside.sessions.entries _ c.args.call.now.client c.in-Some.last.now c.in-Some.last.now
     (c.get_mut.follows.holds c.in-Some.last.now).0 (sym c.in-Some.ensures.value) refl))
 
 pub returns-in_ok-apply-in-Some-clause-told : goal.returns-in_ok-apply-in-Some-clause-told
 returns-in_ok-apply-in-Some-clause-told g c = λ calls after. answer_told g.O.Object.sequential calls c.args.self.now c.args.call.now _ after (search rules)
 
-pub returns-else-is_next-clause-told : goal.returns-else-is_next-clause-told
-returns-else-is_next-clause-told g c = λ calls after. answer_told g.O.Object.sequential calls c.args.self.now c.args.call.now _ after (search rules)
+pub returns-else-is_next_number-clause-told : goal.returns-else-is_next_number-clause-told
+returns-else-is_next_number-clause-told g c = λ calls after. answer_told g.O.Object.sequential calls c.args.self.now c.args.call.now _ after (search rules)
 
 pub returns-in-0-clause-told : goal.returns-in-0-clause-told
 returns-in-0-clause-told g c = λ calls after. answer_told g.O.Object.sequential calls c.args.self.now c.args.call.now _ after (search rules)
 
 pub returns-in-1-clause-told : goal.returns-in-1-clause-told
 returns-in-1-clause-told g c = λ calls after.
-    IfOk-weaker c.admit.result (λ answer. answer ≡ table_answer g.O.Object.sequential c.args.self.now c.args.call.now) _
+    IfOk-weaker c.apply_first_call.result (λ answer. answer ≡ table_answer g.O.Object.sequential c.args.self.now c.args.call.now) _
     (λ answer is. answer_told g.O.Object.sequential calls c.args.self.now c.args.call.now answer after is) (search rules)
 
 pub returns-in_default-clause-told : goal.returns-in_default-clause-told

@@ -11,7 +11,7 @@ use Rattle.ring_srp.proofs.srp.Srp.send.Goals as goal
 
 pub invariant_of-self-2 : goal.invariant_of-self-2
 invariant_of-self-2 g c =
-    ok_or_err (λ (x : Core g.row.A.Denot). may_install x ≡ false) c.send.result c.send.new.running_core
-    (ring_step c.in-Some.running_core (SendInput c.args.payload)).core c.in-Some.running_core c.send.ensures.ok c.send.ensures.kept
+    ok_or_err (λ (x : Core g.row.A.Denot). may_install x ≡ false) c.enqueue_if_operational.result c.enqueue_if_operational.new.running_core
+    (ring_step c.in-Some.running_core (SendInput c.args.payload)).core c.in-Some.running_core c.enqueue_if_operational.ensures.ok c.enqueue_if_operational.ensures.kept
     (stepped_is c.in-Some.running_core (SendInput c.args.payload))
-    (subst (λ (o : Option (Core g.row.A.Denot)). IsEnded o c.self.inside.before.value c.self.inside.last) c.in-Some.is c.self.invariant)
+    (subst (λ (o : Option (Core g.row.A.Denot)). IsEnded o c.self.inside.core_at_stop.value c.self.inside.last_installed) c.in-Some.is c.self.invariant)

@@ -6,4 +6,4 @@ use Rattle.ring_srp_transitions.proofs.running_core.RunningCore.agree.Goals as g
 
 pub invariant_of-self : goal.invariant_of-self
 invariant_of-self g c = stands_on c.self.invariant
-    (ap (λ (x : Gatherer). x.me) c.agree.ensures) (ap (λ (x : Gatherer). x.floor) c.agree.ensures)
+    (ap (λ (x : Gatherer). x.me) c.count_agreement.ensures) (ap (λ (x : Gatherer). x.floor) c.count_agreement.ensures)

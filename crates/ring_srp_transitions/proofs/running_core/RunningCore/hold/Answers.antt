@@ -8,7 +8,7 @@ use Rattle.ring_srp_transitions.proofs.running_core.RunningCore.hold.Given.{Over
 use Rattle.ring_srp_transitions.proofs.running_core.RunningCore.hold.Goals.{Then-eq, in_default-via-in-Some+else-eq, in_default-via-in_default}
 
 -- in Recovery the message is of the running ring
-running : (g : Over) (c : Then-eq g) → (c.self.inside.state ≡ Recovery) × (c.args.message.ring ≡ c.self.inside.running.ring)
+running : (g : Over) (c : Then-eq g) → (c.self.inside.state ≡ Recovery) × (c.args.message.ring ≡ c.self.inside.newest_ring.ring)
 running g c =
     let s = is_recovery c.self.inside.state (sym c.eq.ensures ∙ c.if-eq.true) in
     (s, used_running _ c.args.message (rw (sym c.self.view_is) at c.requires.ring) s)
@@ -25,7 +25,7 @@ take-requires g c =
 pub invariant_of-self : goal.invariant_of-self
 invariant_of-self g c =
     let h = running g (goal.at.invariant_of-self g c).Then-eq in
-    rw (c.one_first-held.ensures, c.take.ensures)
+    rw (c.ghost_list_with_first-held.ensures, c.take.ensures)
     (held_running c.self.invariant c.args.message c.in-Some.recovery_state h.0 c.in-Some.is h.1 (rw (sym c.self.view_is) at c.requires.new))
 
 pub invariant_of-self-in_default : goal.invariant_of-self-in_default
@@ -34,13 +34,13 @@ invariant_of-self-in_default g c =
     let h = rw (sym c.self.view_is) at c.requires.new in
     elim c.in_default.branch [
       | in_default-via-in-Some+else-eq w ↦
-          rw (w.self-inside-is, c.one_first-held.ensures)
+          rw (w.self-inside-is, c.ghost_list_with_first-held.ensures)
           (held_installed c.self.invariant c.args.message
           (no_recovery c.self.inside.state (sym w.eq.ensures ∙ w.if-eq.false)) e h c.take-in_default.new.self _
           (rw w.self-inside-is at c.take-in_default.ensures.window)
           (sym w.in-Some.is ∙ c.self.invariant.over (no_recovery c.self.inside.state (sym w.eq.ensures ∙ w.if-eq.false))))
       | in_default-via-in_default w ↦
-          rw (w.self-inside-is, c.one_first-held.ensures)
+          rw (w.self-inside-is, c.ghost_list_with_first-held.ensures)
           (held_installed c.self.invariant c.args.message
           (λ s. recovering_there _ _ (c.self.invariant.recovery_state s) w.in_default.not-Some) e h c.take-in_default.new.self _
           (rw w.self-inside-is at c.take-in_default.ensures.window)
@@ -51,6 +51,6 @@ pub returns-in_default : goal.returns-in_default
 returns-in_default g c =
     let more = ap (λ (q : Core g.row.A.Denot). record q { held = c.args.message ∷ q.held }) c.self.view_is in
     elim c.in_default.branch [
-      | in_default-via-in-Some+else-eq w ↦ rw (w.self-inside-is, c.one_first-held.ensures) more
-      | in_default-via-in_default w ↦ rw (w.self-inside-is, c.one_first-held.ensures) more
+      | in_default-via-in-Some+else-eq w ↦ rw (w.self-inside-is, c.ghost_list_with_first-held.ensures) more
+      | in_default-via-in_default w ↦ rw (w.self-inside-is, c.ghost_list_with_first-held.ensures) more
     ]

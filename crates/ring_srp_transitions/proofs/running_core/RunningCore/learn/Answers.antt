@@ -3,12 +3,12 @@ use Rattle.std.proofs.Common.{◌≡◌, Some, ◌∷◌, [], ◌++◌, ap, ◌�
 use Rattle.std.proofs.lemmas.Result.{on_ok_weaker}
 use Rattle.ring_commit.specs.Rounds.{receiver}
 use Rattle.ring_recover.specs.RecoveryState.{recovery_opening}
-use Rattle.ring_window.specs.Windows.{opened}
+use Rattle.ring_window.specs.Windows.{window_opening}
 use Rattle.ring_wire.specs.declared.commit.CommitToken.{CommitToken}
 use Rattle.ring_wire.specs.declared.frame.Frame.TheVariants.{Commit as CommitFrame}
 use Rattle.ring_core_spec.specs.State.{Core, OutgoingFrame}
 use Rattle.ring_core_spec.specs.Transitions.{last_sent_repeated}
-use Rattle.ring_core_spec.specs.Giving.{addressed}
+use Rattle.ring_core_spec.specs.Giving.{sends_with_receivers}
 use Rattle.ring_srp_transitions.specs.Allowing.{LearnAllowed}
 use Rattle.ring_srp_transitions.specs.Learns.{plan_at, core_in_recovery}
 use Rattle.ring_srp_transitions.proofs.Learns.{planned_for, passes_on}
@@ -25,11 +25,11 @@ unwrap-plan-requires g c =
 pub advance_hop-requires : goal.advance_hop-requires
 advance_hop-requires g c = hop_room c.args.boxed c.requires.fits
 
-pub recover-requires-clause-allowed : goal.recover-requires-clause-allowed
-recover-requires-clause-allowed g c = subst (λ (k : CommitToken). LearnAllowed c.args.self.now k) (sym (c.ghost_now-received.ensures ∙ c.token-2.ensures)) c.requires
+pub enter_recovery-requires-clause-allowed : goal.enter_recovery-requires-clause-allowed
+enter_recovery-requires-clause-allowed g c = subst (λ (k : CommitToken). LearnAllowed c.args.self.now k) (sym (c.ghost_now-received.ensures ∙ c.token-2.ensures)) c.requires
 
-pub recover-requires-clause-plan : goal.recover-requires-clause-plan
-recover-requires-clause-plan g c =
+pub enter_recovery-requires-clause-plan : goal.enter_recovery-requires-clause-plan
+enter_recovery-requires-clause-plan g c =
     let now = c.args.self.now in
     let me = ap (λ (x : Core g.row.A.Denot). x.me) c.self.view_is in
     let is = c.from_commit.ensures ∙ planned_for now c.args.boxed c.token.result.now c.token.ensures c.requires c.self.inside.me me in
@@ -37,26 +37,26 @@ recover-requires-clause-plan g c =
     let received = c.ghost_now-received.ensures ∙ c.token-2.ensures in
     cc
 
-pub recover-requires-clause-window : goal.recover-requires-clause-window
-recover-requires-clause-window g c = c.in_ok-window.ensures.ok ∙ ap (λ (x : Core g.row.A.Denot). opened {A = g.row.A.Denot} x.running.ring) c.self.view_is
+pub enter_recovery-requires-clause-window : goal.enter_recovery-requires-clause-window
+enter_recovery-requires-clause-window g c = c.in_ok-window.ensures.ok ∙ ap (λ (x : Core g.row.A.Denot). window_opening {A = g.row.A.Denot} x.running.ring) c.self.view_is
 
 pub returns-clause-core : goal.returns-clause-core
 returns-clause-core g c =
     let now = c.args.self.now in
-    let goes = passes_on {A = g.row.A.Denot} c.args.boxed c.advance_hop.new.self c.receiver.result c.only-to.result
-    (went_on c.args.boxed c.advance_hop.new.self c.advance_hop.ensures) (c.receiver.ensures ∙ ap receiver c.token-3.ensures) c.only-to.ensures.value in
-    let is = c.recover.ensures
-    ∙ ap (λ (k : CommitToken). core_in_recovery now k (record { to = c.only-to.result; frame = CommitFrame c.advance_hop.new.self }))
+    let goes = passes_on {A = g.row.A.Denot} c.args.boxed c.advance_hop.new.self c.receiver.result c.singleton-to.result
+    (went_on c.args.boxed c.advance_hop.new.self c.advance_hop.ensures) (c.receiver.ensures ∙ ap receiver c.token-3.ensures) c.singleton-to.ensures.value in
+    let is = c.enter_recovery.ensures
+    ∙ ap (λ (k : CommitToken). core_in_recovery now k (record { to = c.singleton-to.result; frame = CommitFrame c.advance_hop.new.self }))
     (c.ghost_now-received.ensures ∙ c.token-2.ensures)
     ∙ ap (core_in_recovery now c.args.boxed) goes in
-    on_ok_weaker c.repeat.result (λ _. is) c.repeat.ensures.ok
+    on_ok_weaker c.send_kept_token.result (λ _. is) c.send_kept_token.ensures.ok
 
 pub returns-clause-sends : goal.returns-clause-sends
 returns-clause-sends g c =
     let now = c.args.self.now in
     let items = c.args.sends.now.items in
-    let goes = passes_on {A = g.row.A.Denot} c.args.boxed c.advance_hop.new.self c.receiver.result c.only-to.result
-    (went_on c.args.boxed c.advance_hop.new.self c.advance_hop.ensures) (c.receiver.ensures ∙ ap receiver c.token-3.ensures) c.only-to.ensures.value in
-    let last_sent = ap (λ (x : Core g.row.A.Denot). items ++ addressed (last_sent_repeated x.last_sent)) c.recover.ensures
-    ∙ ap (λ (x : OutgoingFrame g.row.A.Denot). items ++ addressed (x ∷ [])) goes in
-    on_ok_weaker c.repeat.result (λ forwarded. forwarded ∙ last_sent) c.repeat.ensures.ok
+    let goes = passes_on {A = g.row.A.Denot} c.args.boxed c.advance_hop.new.self c.receiver.result c.singleton-to.result
+    (went_on c.args.boxed c.advance_hop.new.self c.advance_hop.ensures) (c.receiver.ensures ∙ ap receiver c.token-3.ensures) c.singleton-to.ensures.value in
+    let last_sent = ap (λ (x : Core g.row.A.Denot). items ++ sends_with_receivers (last_sent_repeated x.last_sent)) c.enter_recovery.ensures
+    ∙ ap (λ (x : OutgoingFrame g.row.A.Denot). items ++ sends_with_receivers (x ∷ [])) goes in
+    on_ok_weaker c.send_kept_token.result (λ forwarded. forwarded ∙ last_sent) c.send_kept_token.ensures.ok

@@ -5,10 +5,10 @@ use Rattle.ring_base.specs.declared.state.State.TheVariants.{Recovery, Operation
 use Rattle.ring_base.proofs.Results.{ok_always}
 use Rattle.ring_payload.specs.declared.content.Payload.{Payload}
 use Rattle.ring_payload.specs.Packing.{packed_payloads, unpacked_rest}
-use Rattle.ring_token.specs.Visits.{room}
+use Rattle.ring_token.specs.Visits.{max_new_messages}
 use Rattle.ring_core_spec.specs.State.{Core}
 use Rattle.ring_core_spec.specs.Views.{mark}
-use Rattle.ring_core_spec.specs.Visiting.{offers, room_at, queue_after}
+use Rattle.ring_core_spec.specs.Visiting.{payloads_to_send, room_at, queue_after}
 use Rattle.ring_srp_transitions.specs.RunningCores.{is_running}
 use Rattle.ring_srp_transitions.proofs.KeptByTransitions.{stands_on}
 use Rattle.ring_srp_transitions.proofs.Visits.{none_runs, mark_behind, mark_by_visits}
@@ -19,16 +19,16 @@ use Rattle.ring_srp_transitions.proofs.running_core.RunningCore.new_payloads.Goa
 -- the mark used is the core's
 safe_is : (g : Over) (c : After-safe g) → c.safe.result ≡ mark c.args.self.now c.args.token.now.ring
 safe_is g c =
-    let p = c.part.result.now in
-    c.safe.ensures ∙ mark_by_visits c.args.self.now p.window p.visit c.args.token.now (c.part.ensures.running c.requires.runs) c.requires.passes
+    let p = c.part_in_use.result.now in
+    c.safe.ensures ∙ mark_by_visits c.args.self.now p.window p.visit c.args.token.now (c.part_in_use.ensures.running c.requires.runs) c.requires.passes
 
-pub room-room-requires : goal.room-room-requires
-room-room-requires g c =
+pub max_new_messages-room-requires : goal.max_new_messages-room-requires
+max_new_messages-room-requires g c =
     let now = c.args.self.now in
     let t = c.args.token.now in
-    let p = c.part.result.now in
-    subst (λ m. m ≤ t.seq) (sym (safe_is g (goal.at.room-room-requires g c).After-safe))
-    (mark_behind now p.window p.visit t (c.part.ensures.running c.requires.runs) c.requires.passes)
+    let p = c.part_in_use.result.now in
+    subst (λ m. m ≤ t.seq) (sym (safe_is g (goal.at.max_new_messages-room-requires g c).After-safe))
+    (mark_behind now p.window p.visit t (c.part_in_use.ensures.running c.requires.runs) c.requires.passes)
 
 pub recovery_messages-requires : goal.recovery_messages-requires
 recovery_messages-requires g c = sym (ap (λ (x : Core g.row.A.Denot). x.state) c.self.view_is) ∙ c.in-Recovery.is
@@ -41,10 +41,10 @@ returns-in-Recovery g c =
     let now = c.args.self.now in
     let t = c.args.token.now in
     let state : now.state ≡ Recovery = sym (ap (λ (x : Core g.row.A.Denot). x.state) c.self.view_is) ∙ c.in-Recovery.is in
-    let r : c.room-room.result ≡ room_at now t = c.room-room.ensures ∙ ap (λ m. room m t.seq) (safe_is g (goal.at.returns-in-Recovery g c).After-safe) in
+    let r : c.max_new_messages-room.result ≡ room_at now t = c.max_new_messages-room.ensures ∙ ap (λ m. max_new_messages m t.seq) (safe_is g (goal.at.returns-in-Recovery g c).After-safe) in
     record {
-      items = subst (λ n. IfOk c.recovery_messages.result (λ ps. ps.items ≡ offers now.state now n)) r
-          (subst (λ s. IfOk c.recovery_messages.result (λ ps. ps.items ≡ offers s now c.room-room.result)) (sym state) c.recovery_messages.ensures.items);
+      items = subst (λ n. IfOk c.recovery_messages.result (λ ps. ps.items ≡ payloads_to_send now.state now n)) r
+          (subst (λ s. IfOk c.recovery_messages.result (λ ps. ps.items ≡ payloads_to_send s now c.max_new_messages-room.result)) (sym state) c.recovery_messages.ensures.items);
       core = ok_always c.recovery_messages.result (ap (λ (q : List (Payload g.row.A.Denot)). record now { queue = q })
           (sym (ap (λ s. queue_after s (room_at now t) now.queue) state)));
       refused = c.recovery_messages.ensures.refused;
@@ -55,16 +55,16 @@ returns-in-Operational g c =
     let now = c.args.self.now in
     let t = c.args.token.now in
     let state : now.state ≡ Operational = sym (ap (λ (x : Core g.row.A.Denot). x.state) c.self.view_is) ∙ c.in-Operational.is in
-    let r : c.room-room.result ≡ room_at now t = c.room-room.ensures ∙ ap (λ m. room m t.seq) (safe_is g (goal.at.returns-in-Operational g c).After-safe) in
+    let r : c.max_new_messages-room.result ≡ room_at now t = c.max_new_messages-room.ensures ∙ ap (λ m. max_new_messages m t.seq) (safe_is g (goal.at.returns-in-Operational g c).After-safe) in
     let queue = ap (λ (x : Core g.row.A.Denot). x.queue) c.self.view_is in
-    let here = subst (λ q. IfOk c.take_packed.result (λ ps. ps.items ≡ packed_payloads c.room-room.result q)) queue c.take_packed.ensures.items in
+    let here = subst (λ q. IfOk c.take_packed.result (λ ps. ps.items ≡ packed_payloads c.max_new_messages-room.result q)) queue c.take_packed.ensures.items in
     record {
-      items = subst (λ n. IfOk c.take_packed.result (λ ps. ps.items ≡ offers now.state now n)) r
-          (subst (λ s. IfOk c.take_packed.result (λ ps. ps.items ≡ offers s now c.room-room.result)) (sym state) here);
+      items = subst (λ n. IfOk c.take_packed.result (λ ps. ps.items ≡ payloads_to_send now.state now n)) r
+          (subst (λ s. IfOk c.take_packed.result (λ ps. ps.items ≡ payloads_to_send s now c.max_new_messages-room.result)) (sym state) here);
       core = on_ok_weaker c.take_packed.result
           (λ e.
           let k : c.take_packed.new.queue.items ≡ queue_after now.state (room_at now t) now.queue =
-          e ∙ ap (λ q. unpacked_rest c.room-room.result q) queue ∙ ap (λ n. unpacked_rest n now.queue) r
+          e ∙ ap (λ q. unpacked_rest c.max_new_messages-room.result q) queue ∙ ap (λ n. unpacked_rest n now.queue) r
           ∙ ap (λ s. queue_after s (room_at now t) now.queue) (sym state) in
           λ i. record (c.self.view_is i) { queue = k i })
           c.take_packed.ensures.queue;

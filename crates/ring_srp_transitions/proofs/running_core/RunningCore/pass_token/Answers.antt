@@ -3,4 +3,4 @@ use Rattle.std.proofs.lemmas.Result.{on_ok_weaker}
 use Rattle.ring_srp_transitions.proofs.running_core.RunningCore.pass_token.Goals as goal
 
 pub returns-clause-core : goal.returns-clause-core
-returns-clause-core g c = on_ok_weaker c.repeat.result (λ _. c.in_ok-pass_on.ensures.core) c.repeat.ensures.ok
+returns-clause-core g c = on_ok_weaker c.send_kept_token.result (λ _. c.in_ok-keep_forwarded_token.ensures.core) c.send_kept_token.ensures.ok

@@ -11,8 +11,8 @@ pub returns : goal.returns
 returns g c =
     let now = c.args.self.now in
     let t = c.args.token.now in
-    let p = c.part-part.result.now in
-    let is = c.part-part.ensures.running c.requires.runs in
+    let p = c.part_in_use-part.result.now in
+    let is = c.part_in_use-part.ensures.running c.requires.runs in
     c.requests_left.ensures (holds p.window.held p.window.ring) (λ n r q. search rules)
     ∙ ap (λ m. requests_left m (holds p.window.held p.window.ring) t.requests) (c.safe.ensures ∙ mark_by_visits now p.window p.visit t is c.requires.passes)
     ∙ ap (λ (f : ℕ → Bool). requests_left (mark now t.ring) f t.requests) (fun_ext (λ n. holds_by now p.window p.visit t n is c.requires.passes))

@@ -11,7 +11,7 @@ use Rattle.ring_srp_transitions.proofs.running_core.RunningCore.take.Given.{Over
 use Rattle.ring_srp_transitions.proofs.running_core.RunningCore.take.Goals.{Then-eq, in_default-via-in-Some+else-eq, in_default-via-in_default}
 
 -- in Recovery the message is of the running ring, and new there
-running : (g : Over) (c : Then-eq g) → (c.self.inside.state ≡ Recovery) × (c.args.message.ring ≡ c.self.inside.running.ring)
+running : (g : Over) (c : Then-eq g) → (c.self.inside.state ≡ Recovery) × (c.args.message.ring ≡ c.self.inside.newest_ring.ring)
 running g c =
     let s = is_recovery c.self.inside.state (sym c.eq.ensures ∙ c.if-eq.true) in
     (s, taken_running _ c.args.message (rw (sym c.self.view_is) at c.requires) c.self.invariant.same s)

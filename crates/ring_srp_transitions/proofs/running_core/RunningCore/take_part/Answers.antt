@@ -14,7 +14,7 @@ use Rattle.ring_srp_transitions.proofs.running_core.RunningCore.take_part.Goals 
 
 pub invariant_of-self : goal.invariant_of-self
 invariant_of-self g c =
-    rw (c.with_ring-history.ensures) (into_commit c.self.invariant
+    rw (c.history_with_ring-history.ensures) (into_commit c.self.invariant
     (ap (λ (x : Core g.row.A.Denot). x.state) c.self.view_is ∙ c.requires.state)
     (subst (λ (x : Core g.row.A.Denot). floor x < c.args.ring.seq) (sym c.self.view_is) c.requires.newer)
     (subst (λ (x : Core g.row.A.Denot). IsMember c.args.members x.me) (sym c.self.view_is) c.requires.member))
@@ -24,7 +24,7 @@ returns g c =
     let s = c.self.inside in
     let r : Configuration = record { ring = c.args.ring; members = c.args.members } in
     ap (λ (h : History g.row.A.Denot). core_of s.me s.fixed.count Commit r s.installed s.gather.gathering
-    (Some (record { to = c.args.to; frame = c.args.frame })) s.queue.items s.held.value h) c.with_ring-history.ensures
+    (Some (record { to = c.args.to; frame = c.args.frame })) s.queue.items s.held.value h) c.history_with_ring-history.ensures
     ∙ ap (λ (e : CommitEntry). core_of s.me s.fixed.count Commit r s.installed s.gather.gathering
     (Some (record { to = c.args.to; frame = c.args.frame })) s.queue.items s.held.value
     (with_ring s.history.value r e)) c.own_entry-own.ensures

@@ -9,5 +9,5 @@ use Rattle.ring_srp_transitions.proofs.running_core.RunningCore.takes_second_rou
 pub returns : goal.returns
 returns g c =
     c.is_second_round.ensures
-    ∙ ap (λ (e : CommitEntry). is_second_round c.self.inside.running e c.args.token.now) c.own_entry-own.ensures
+    ∙ ap (λ (e : CommitEntry). is_second_round c.self.inside.newest_ring e c.args.token.now) c.own_entry-own.ensures
     ∙ ap (λ (x : Core g.row.A.Denot). is_second_round x.running (own_entry c.args.self.now) c.args.token.now) c.self.view_is

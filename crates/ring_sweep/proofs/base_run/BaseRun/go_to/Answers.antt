@@ -24,9 +24,9 @@ returns-in-Some-clause-come g c =
     let l = c.index.result.now in
     let here = read_line object script.lines.items k c.len-index-end.result l c.loop-index-test.true
     (c.len-index-end.ensures ∙ script.lines.ok.0) c.index.ensures in
-    let found = line_found object script.nodes script.lines.items k old.turns c.in-Some.turns c.args.before old.counted_run.done new.done l
+    let found = line_found object script.nodes script.lines.items k old.turns c.in-Some.turns c.args.before old.counted_run.events_done new.events_done l
     c.in_ok-turns.field-0 old.counted_run.run new.run here c.loop-index.invariant.1 c.in_ok-turns.ensures.ok c.in-Some.is in
-    subst (λ (n : ℕ). HasReachedEvent object script.nodes script.lines.items n c.in-Some.turns new.done new.run) (sym c.loop-index.invariant.0) found.0
+    subst (λ (n : ℕ). HasReachedEvent object script.nodes script.lines.items n c.in-Some.turns new.events_done new.run) (sym c.loop-index.invariant.0) found.0
 
 pub returns-in-Some-clause-due : goal.returns-in-Some-clause-due
 returns-in-Some-clause-due g c =
@@ -38,9 +38,9 @@ returns-in-Some-clause-due g c =
     let l = c.index.result.now in
     let here = read_line object script.lines.items k c.len-index-end.result l c.loop-index-test.true
     (c.len-index-end.ensures ∙ script.lines.ok.0) c.index.ensures in
-    let found = line_found object script.nodes script.lines.items k old.turns c.in-Some.turns c.args.before old.counted_run.done new.done l
+    let found = line_found object script.nodes script.lines.items k old.turns c.in-Some.turns c.args.before old.counted_run.events_done new.events_done l
     c.in_ok-turns.field-0 old.counted_run.run new.run here c.loop-index.invariant.1 c.in_ok-turns.ensures.ok c.in-Some.is in
-    subst (λ (n : ℕ). IsDue object (left_of script.lines.items n c.in-Some.turns) new.done c.args.before new.run) (sym c.loop-index.invariant.0) found.1
+    subst (λ (n : ℕ). IsDue object (left_of script.lines.items n c.in-Some.turns) new.events_done c.args.before new.run) (sym c.loop-index.invariant.0) found.1
 
 pub returns-in-Some-clause-step : goal.returns-in-Some-clause-step
 returns-in-Some-clause-step g c =
@@ -53,7 +53,7 @@ returns-in-Some-clause-step g c =
     let here = read_line object lines.items k c.len-index-end.result l c.loop-index-test.true
     (c.len-index-end.ensures ∙ lines.ok.0) c.index.ensures in
     subst (λ (n : ℕ). IsBeforeStep lines.items n c.in-Some.turns) (sym c.loop-index.invariant.0)
-    (step_found object lines.items k old.turns c.in-Some.turns c.args.before old.counted_run.done new.done l
+    (step_found object lines.items k old.turns c.in-Some.turns c.args.before old.counted_run.events_done new.events_done l
     c.in_ok-turns.field-0 old.counted_run.run new.run here c.in_ok-turns.ensures.ok c.in-Some.is)
 
 pub loop-index-preserved : goal.loop-index-preserved
@@ -66,7 +66,7 @@ loop-index-preserved g c =
     let l = c.index.result.now in
     let here = read_line object script.lines.items k c.len-index-end.result l c.loop-index-test.true
     (c.len-index-end.ensures ∙ script.lines.ok.0) c.index.ensures in
-    let past = line_past object script.nodes script.lines.items k old.turns c.args.before old.counted_run.done new.done l c.in_ok-turns.field-0
+    let past = line_past object script.nodes script.lines.items k old.turns c.args.before old.counted_run.events_done new.events_done l c.in_ok-turns.field-0
     old.counted_run.run new.run here c.loop-index.invariant.1 c.loop-index.invariant.2 c.in_ok-turns.ensures.ok c.in_default.is in
     (refl, past.0, past.1)
 
@@ -76,7 +76,7 @@ returns-clause-due g c =
     let here = c.loop-index.self in
     let all = c.len-index-end.ensures ∙ lines.ok.0 in
     let same = c.loop-index.invariant.0 in
-    come_behind g.O.Object.sequential lines.items here.lines here.turns here.counted_run.done c.args.before here.counted_run.run
+    come_behind g.O.Object.sequential lines.items here.lines here.turns here.counted_run.events_done c.args.before here.counted_run.run
     (omega (arith, all, same, c.loop-index-test.false)) c.loop-index.invariant.2
 
 pub returns-clause-step : goal.returns-clause-step

@@ -6,5 +6,5 @@ use Rattle.ring_sweep.proofs.base_run.BaseRun.go_to.Given as goal
 abbrev pub invariant-loop-index : goal.invariant-loop-index
 invariant-loop-index g l =
     (l.self.lines ≡ l.index)
-    × HasReachedEvent g.O.Object.sequential l.script.nodes l.script.lines.items l.index l.self.turns l.self.counted_run.done l.self.counted_run.run
-    × (l.self.counted_run.done ≤ l.before)
+    × HasReachedEvent g.O.Object.sequential l.script.nodes l.script.lines.items l.index l.self.turns l.self.counted_run.events_done l.self.counted_run.run
+    × (l.self.counted_run.events_done ≤ l.before)

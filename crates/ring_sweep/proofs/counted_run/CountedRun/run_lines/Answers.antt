@@ -14,7 +14,7 @@ loop-numbered-preserved g c =
     let run = c.loop-numbered.self in
     let next = c.take_line.new.self in
     let here = slice_get_read lines (length lines) c.loop-numbered.numbered-index item refl c.loop-numbered-test.true c.numbered-item.is in
-    passes_line object lines c.loop-numbered.numbered-index item c.args.self.now.done run.done next.done c.args.self.now.run run.run next.run here
+    passes_line object lines c.loop-numbered.numbered-index item c.args.self.now.events_done run.events_done next.events_done c.args.self.now.run run.run next.run here
     c.loop-numbered.invariant
-    (subst (λ (ls : List (ScriptLine g.row.O-Alloc.Denot)). AreStepsDone object ls run.done next.done run.run next.run) (left_whole item.line)
+    (subst (λ (ls : List (ScriptLine g.row.O-Alloc.Denot)). AreStepsDone object ls run.events_done next.events_done run.run next.run) (left_whole item.line)
     c.in_ok-take_line.ensures.ok)

@@ -1,6 +1,6 @@
 use Rattle.std.proofs.Common.{◌-◌, length, drop}
 use Rattle.ring_object.specs.Bytes.{AreBytes-fits}
-use Rattle.ring_things.specs.Replies.{AreBytes-drop, AreBytes-take}
+use Rattle.ring_things.specs.ReplyBytes.{AreBytes-drop, AreBytes-take}
 use Rattle.ring_things.specs.NamesLaws.{IsSet-names_of}
 use Rattle.ring_things.proofs.names.NamesObject.restore.Goals as goal
 

@@ -10,9 +10,9 @@ returns-in_err-first-clause-refused g c =
     let second = g.Q.Object.sequential.restored c.in-Some.second.now in
     let third = g.R.Object.sequential.restored c.in-Some.third.now in
     let fourth = g.S.Object.sequential.restored c.in-Some.fourth.now in
-    let front = c.both-front.ensures first second (joined first _ c.restore.ensures.ok c.restore.ensures.refused)
+    let front = c.both_restored-front.ensures first second (joined first _ c.restore.ensures.ok c.restore.ensures.refused)
     (joined second _ c.restore-2.ensures.ok c.restore-2.ensures.refused) in
-    let back = c.both-back.ensures third fourth (joined third _ c.restore-3.ensures.ok c.restore-3.ensures.refused)
+    let back = c.both_restored-back.ensures third fourth (joined third _ c.restore-3.ensures.ok c.restore-3.ensures.refused)
     (joined fourth _ c.restore-4.ensures.ok c.restore-4.ensures.refused) in
     let refuses = refuses_four (both_of (both_of first second) (both_of third fourth)) _ (c.in_err-first.ensures
     (both_of first second) (both_of third fourth) front back) in
@@ -25,8 +25,8 @@ returns-clause-ok g c =
     let second = g.Q.Object.sequential.restored c.in-Some.second.now in
     let third = g.R.Object.sequential.restored c.in-Some.third.now in
     let fourth = g.S.Object.sequential.restored c.in-Some.fourth.now in
-    let front = c.both-front.ensures first second (joined first _ c.restore.ensures.ok c.restore.ensures.refused)
+    let front = c.both_restored-front.ensures first second (joined first _ c.restore.ensures.ok c.restore.ensures.refused)
     (joined second _ c.restore-2.ensures.ok c.restore-2.ensures.refused) in
-    let back = c.both-back.ensures third fourth (joined third _ c.restore-3.ensures.ok c.restore-3.ensures.refused)
+    let back = c.both_restored-back.ensures third fourth (joined third _ c.restore-3.ensures.ok c.restore-3.ensures.refused)
     (joined fourth _ c.restore-4.ensures.ok c.restore-4.ensures.refused) in
     rw (← c.in-Some.ensures) (ap four_of (c.in_ok-first.ensures (both_of first second) (both_of third fourth) front back))

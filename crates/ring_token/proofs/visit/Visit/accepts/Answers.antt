@@ -4,5 +4,5 @@ use Rattle.ring_token.proofs.visit.Visit.accepts.Goals as goal
 
 pub returns : goal.returns
 returns g c = rw (c.is_acceptable.ensures, c.self.invariant.1, ← c.self.view_is)
-    (accepted_by c.self.inside.history.value c.self.inside.next c.self.inside.aru c.self.inside.safe c.args.high
+    (accepted_by c.self.inside.history.value c.self.inside.next_token_number c.self.inside.aru c.self.inside.safe c.args.high
     c.args.token.now c.self.invariant.2)

@@ -4,12 +4,12 @@ use Rattle.ring_window.proofs.held_bits.HeldBits.first_clear.Goals as goal
 
 pub returns-then-word : goal.returns-then-word
 returns-then-word c = rw c.trailing_ones.ensures
-    (first_here c.args.self.now.words c.args.from c.loop-offset.offset c.word_at-word.result c.loop-offset.invariant.0
-    c.loop-offset.invariant.1 c.word_at-word.ensures (omega arith))
+    (first_here c.args.self.now.words c.args.from c.loop-offset.offset c.word_from_bit-word.result c.loop-offset.invariant.0
+    c.loop-offset.invariant.1 c.word_from_bit-word.ensures (omega arith))
 
 pub loop-offset-preserved : goal.loop-offset-preserved
 loop-offset-preserved c = (
   omega arith,
-  whole_here c.args.self.now.words c.args.from c.loop-offset.offset c.word_at-word.result c.loop-offset.invariant.1
-      c.word_at-word.ensures (omega arith),
+  whole_here c.args.self.now.words c.args.from c.loop-offset.offset c.word_from_bit-word.result c.loop-offset.invariant.1
+      c.word_from_bit-word.ensures (omega arith),
 )

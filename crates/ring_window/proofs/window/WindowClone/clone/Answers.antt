@@ -2,4 +2,4 @@
 use Rattle.ring_window.proofs.window.WindowClone.clone.Goals as goal
 
 pub invariant_of-result : goal.invariant_of-result
-invariant_of-result g c = rw (c.in_ok-clone.ensures.cases, c.in_ok-copied_places.ensures) c.self.invariant
+invariant_of-result g c = rw (c.in_ok-clone.ensures.cases, c.in_ok-copied_slots.ensures) c.self.invariant

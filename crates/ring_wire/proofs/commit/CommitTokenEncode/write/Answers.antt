@@ -6,4 +6,4 @@ pub write-requires-3-clause-fits : goal.write-requires-3-clause-fits
 write-requires-3-clause-fits g c = commit_hop c.args.self.now c.requires.fits
 
 pub returns : goal.returns
-returns g c = and_then c.write.ensures (and_then c.write-2.ensures (and_then c.write-3.ensures (rw c.as_slice.ensures.value at c.write_many.ensures)))
+returns g c = and_then c.write.ensures (and_then c.write-2.ensures (and_then c.write-3.ensures (rw c.as_slice.ensures.value at c.encode_list.ensures)))

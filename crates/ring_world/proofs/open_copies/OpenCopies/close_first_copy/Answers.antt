@@ -8,11 +8,11 @@ returns-clause-takes g c =
     let p = c.loop-self.self in
     let frames = frames_of g.O.Object.sequential c.args.world.now in
     sym c.loop-self.invariant.0
-    ∙ closes p frames (record { frame = p.frame; sender = p.sender; left = c.less-self.result })
-    c.in_ok-receiver.receiver c.only.result c.in_ok-receiver.ensures.found c.in_ok-receiver.ensures.member
-    c.only.ensures.value (rw c.less-self.ensures.value refl)
+    ∙ closes p frames (record { reached_frame = p.reached_frame; sender = p.sender; open_receivers = c.without_members-self.result })
+    c.in_ok-receiver.receiver c.singleton.result c.in_ok-receiver.ensures.found c.in_ok-receiver.ensures.member
+    c.singleton.ensures.value (rw c.without_members-self.ensures.value refl)
 
-pub returns-then-not-advance-clause-takes : goal.returns-then-not-advance-clause-takes
-returns-then-not-advance-clause-takes g c =
-    let last = c.advance.ensures.last c.if-not-advance.true in
+pub returns-then-not-advance_to_next_frame-clause-takes : goal.returns-then-not-advance_to_next_frame-clause-takes
+returns-then-not-advance_to_next_frame-clause-takes g c =
+    let last = c.advance_to_next_frame.ensures.last c.if-not-advance_to_next_frame.true in
     (sym c.loop-self.invariant.0 ∙ last.0, last.1 ∙ c.loop-self.invariant.0)

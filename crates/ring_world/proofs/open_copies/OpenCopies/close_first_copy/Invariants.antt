@@ -9,4 +9,4 @@ invariant-loop-self g l =
     × IsReached l.self (frames_of g.O.Object.sequential l.world)
 
 abbrev pub decreases-loop-self : goal.decreases-loop-self
-decreases-loop-self g l = length (within_reach (frames_of g.O.Object.sequential l.world)) - l.self.frame
+decreases-loop-self g l = length (within_reach (frames_of g.O.Object.sequential l.world)) - l.self.reached_frame

@@ -38,6 +38,6 @@ returns-clause-ok g c =
     let many = c.committed_len-many.ensures ∙ ap (λ (n : Node g.row.O-Alloc.Denot). (node_known_log n).committed) (node_is at c.index.ensures) in
     let same : take c.committed_len-many.result k.run_record.longest.calls ≡ committed_of k.fixed (whole_epochs_in w node) =
     ap (λ n. take n k.run_record.longest.calls) many ∙ ap (take (node_known_log (w.nodes node)).committed) c.self.invariant.kept.longest_is
-    ∙ sym (c.longest_law.ensures.takes k.fixed k.run_record.events.items node c.self.invariant.few at.low (high at)) in
-    subst (λ (q : WorldView g.row.O-Alloc.Denot). IfOk c.first.result (λ calls. calls.items ≡ committed_of q.group (whole_epochs_in (world_of object q) node)))
-    c.self.view_is (subst (λ xs. IfOk c.first.result (λ calls. calls.items ≡ xs)) same c.first.ensures.ok)
+    ∙ sym (c.longest_committed_log_law.ensures.takes k.fixed k.run_record.events.items node c.self.invariant.few at.low (high at)) in
+    subst (λ (q : WorldView g.row.O-Alloc.Denot). IfOk c.copy_first_calls.result (λ calls. calls.items ≡ committed_of q.group (whole_epochs_in (world_of object q) node)))
+    c.self.view_is (subst (λ xs. IfOk c.copy_first_calls.result (λ calls. calls.items ≡ xs)) same c.copy_first_calls.ensures.ok)

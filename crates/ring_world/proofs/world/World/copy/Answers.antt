@@ -1,7 +1,7 @@
 -- The copy's fields represent the same world.
 use Rattle.std.proofs.Common.{List, ap, ◌∙◌}
 use Rattle.ring_node_spec.specs.declared.event.Event.{Event}
-use Rattle.ring_node_spec.specs.declared.told.Told.{Told}
+use Rattle.ring_node_spec.specs.declared.client_report.Told.{Told}
 use Rattle.ring_world.specs.WorldView.{WorldView}
 use Rattle.ring_world.proofs.Copying.{copied}
 use Rattle.ring_world.proofs.world.World.copy.Goals as goal

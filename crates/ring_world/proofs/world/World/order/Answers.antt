@@ -10,6 +10,6 @@ pub returns-clause-ok : goal.returns-clause-ok
 returns-clause-ok g c =
     let k = c.self.inside in
     let object = g.O.Object.sequential in
-    let same = ap deduplicated c.self.invariant.kept.longest_is ∙ sym (c.longest_law.ensures.order k.fixed k.run_record.events.items c.self.invariant.few) in
-    subst (λ (q : WorldView g.row.O-Alloc.Denot). IfOk c.order.result (λ calls. calls.items ≡ order (world_of object q))) c.self.view_is
-    (subst (λ xs. IfOk c.order.result (λ calls. calls.items ≡ xs)) same c.order.ensures.ok)
+    let same = ap deduplicated c.self.invariant.kept.longest_is ∙ sym (c.longest_committed_log_law.ensures.order k.fixed k.run_record.events.items c.self.invariant.few) in
+    subst (λ (q : WorldView g.row.O-Alloc.Denot). IfOk c.copy_effective_calls.result (λ calls. calls.items ≡ order (world_of object q))) c.self.view_is
+    (subst (λ xs. IfOk c.copy_effective_calls.result (λ calls. calls.items ≡ xs)) same c.copy_effective_calls.ensures.ok)

@@ -23,4 +23,4 @@ returns g c =
     ∙ order-length object w k.nodes.items k.spares.items k.run_record.frames.frames k.run_record.history.items k.run_record.told.items k.run_record.longest.calls is.kept (λ i low high.
     let within : i ≤ k.fixed.count = omega (arith, high, count) in
     subst (λ (x : Group). effects_of object (w.nodes i) ≡ length (deduplicated (committed_of x (whole_epochs_in w i)))) (sym is.same)
-    (c.effects_law.ensures.effects k.fixed k.run_record.events.items i is.few is.fit low within)))
+    (c.committed_effects_law.ensures.effects k.fixed k.run_record.events.items i is.few is.fit low within)))

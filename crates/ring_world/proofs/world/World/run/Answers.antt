@@ -21,7 +21,7 @@ returns-clause-plays g c =
 pub returns-clause-explains : goal.returns-clause-explains
 returns-clause-explains g c =
     let q = c.run_all-ran.new.self in
-    c.linear_law.ensures.explains q.group q.events c.run_law.ensures.few c.run_law.ensures.keep
+    c.linear_law.ensures.explains q.group q.events c.run_limits_law.ensures.few c.run_limits_law.ensures.keep
 
 pub returns-clause-grows : goal.returns-clause-grows
 returns-clause-grows g c =
@@ -38,12 +38,12 @@ returns-clause-grows g c =
 pub returns-clause-fronts : goal.returns-clause-fronts
 returns-clause-fronts g c = λ node low high.
     let q = c.run_all-ran.new.self in
-    c.linear_law.ensures.fronts q.group q.events node c.run_law.ensures.few low high
+    c.linear_law.ensures.fronts q.group q.events node c.run_limits_law.ensures.few low high
 
 pub returns-clause-follows : goal.returns-clause-follows
 returns-clause-follows g c = λ node low high.
     let q = c.run_all-ran.new.self in
-    c.linear_law.ensures.follows q.group q.events node c.run_law.ensures.few c.run_law.ensures.keep low high
+    c.linear_law.ensures.follows q.group q.events node c.run_limits_law.ensures.few c.run_limits_law.ensures.keep low high
 
 pub returns-clause-synchronous : goal.returns-clause-synchronous
 returns-clause-synchronous g c = synchronous_run g.O.Object.sequential c.run_all-ran.new.self.group c.run_all-ran.new.self.events

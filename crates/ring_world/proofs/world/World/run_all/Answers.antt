@@ -7,8 +7,8 @@ use Rattle.ring_base.proofs.Rows.{take-more}
 use Rattle.ring_world.proofs.Playing.{plays_more}
 use Rattle.ring_world.proofs.world.World.run_all.Goals as goal
 
-pub count-requires : goal.count-requires
-count-requires g c =
+pub count_done_event-requires : goal.count_done_event-requires
+count_done_event-requires g c =
     let done = c.in_ok-run_event.ensures.done ∙ c.loop-event.invariant.1 in
     omega (arith, done, c.loop-event-test.true)
 
@@ -21,8 +21,8 @@ loop-event-preserved g c =
     let at = slice_get_read es (length es) i e refl c.loop-event-test.true c.event-item.is in
     let q = c.run_event.new.self in
     let more = plays_more object (take i es) e (q.done + 1) c.args.self.now c.loop-event.self q c.loop-event.invariant.0 c.in_ok-run_event.ensures.ok in (
-      subst (λ (r : WorldView g.row.O-Alloc.Denot). IsRunOfEvents object (take (i + 1) es) c.args.self.now r) (sym c.count.ensures)
+      subst (λ (r : WorldView g.row.O-Alloc.Denot). IsRunOfEvents object (take (i + 1) es) c.args.self.now r) (sym c.count_done_event.ensures)
           (subst (λ (xs : List (Event g.row.O-Alloc.Denot)). IsRunOfEvents object xs c.args.self.now
           (record q { done = q.done + 1 })) (sym (take-more es i e at)) more),
-      ap (λ (r : WorldView g.row.O-Alloc.Denot). r.done) c.count.ensures ∙ ap (λ n. n + 1) (c.in_ok-run_event.ensures.done ∙ c.loop-event.invariant.1),
+      ap (λ (r : WorldView g.row.O-Alloc.Denot). r.done) c.count_done_event.ensures ∙ ap (λ n. n + 1) (c.in_ok-run_event.ensures.done ∙ c.loop-event.invariant.1),
     )

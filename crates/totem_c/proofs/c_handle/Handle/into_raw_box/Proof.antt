@@ -29,7 +29,7 @@ use Rattle.std.specs.contracts.alloc.Global as heap
 use Rattle.std.proofs.alloc.Global.TheLaws as heap_laws
 use Rattle.std.specs.contracts.impls.GlobalAllocator.TheImpl.{ghosts}
 use Rattle.std.proofs.raw_atomic.Walks.{proved_at, leaves}
-use Rattle.totem_c.specs.contracts.contents.HandleContents as contents
+use Rattle.totem_c.specs.contracts.handle_contents.HandleContents as contents
 use Rattle.totem_c.proofs.Loosed.{both, RawBox, loose_good, loose_in}
 use Rattle.totem_c.proofs.Handled.{handle_out, full, empty}
 use Rattle.totem_c.specs.contracts.c_handle.Handle as c_handle

@@ -1,5 +1,0 @@
-use Rattle.std.proofs.Common.{rules}
-use Rattle.refusing_alloc.proofs.requests.is_counted.Goals as goal
-
-pub returns : goal.returns
-returns c = search rules

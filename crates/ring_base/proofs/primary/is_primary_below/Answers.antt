@@ -1,5 +1,0 @@
-use Rattle.std.proofs.Common.{rules}
-use Rattle.ring_base.proofs.primary.is_primary_below.Goals as goal
-
-pub returns : goal.returns
-returns c = search rules

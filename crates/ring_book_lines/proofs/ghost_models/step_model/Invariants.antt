@@ -1,0 +1,5 @@
+-- The ghost value.
+use Rattle.ring_book_lines.proofs.ghost_models.step_model.Given as goal
+
+abbrev pub ghost-ghost_step : goal.ghost-ghost_step
+ghost-ghost_step g a = λ old x. x

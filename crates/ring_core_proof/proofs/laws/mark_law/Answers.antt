@@ -1,5 +1,0 @@
-use Rattle.ring_core_proof.proofs.WithinWindow.{marks_within}
-use Rattle.ring_core_proof.proofs.laws.mark_law.Goals as goal
-
-pub returns : goal.returns
-returns g c = marks_within

@@ -1,6 +1,0 @@
--- One more counted join.
-use Rattle.std.proofs.Common.{◌∷◌}
-use Rattle.ring_join.proofs.gather.Gather.agree.Given as goal
-
-abbrev pub ghost-ghost_of : goal.ghost-ghost_of
-ghost-ghost_of a = a.from.now.1.now ∷ a.from.now.0.now.value

@@ -1,5 +1,0 @@
-use Rattle.ring_join.proofs.Consensus.{consensus}
-use Rattle.ring_join.proofs.laws.consensus_law.Goals as goal
-
-pub returns : goal.returns
-returns c = consensus

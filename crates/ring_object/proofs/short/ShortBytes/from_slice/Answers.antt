@@ -1,6 +1,0 @@
-use Rattle.std.proofs.Common.{refl}
-use Rattle.ring_object.specs.ShortBytes.{IsFilled-overwritten}
-use Rattle.ring_object.proofs.short.ShortBytes.from_slice.Goals as goal
-
-pub invariant_of-result : goal.invariant_of-result
-invariant_of-result g c = rw c.copy_from_slice.ensures.after (IsFilled-overwritten g.row.N c.args.bytes.now _ c.requires refl)

@@ -1,5 +1,0 @@
-use Rattle.ring_object.specs.Bytes.{AreBytes-fits}
-use Rattle.ring_order_proof.proofs.fit_laws.bytes_law.Goals as goal
-
-pub returns : goal.returns
-returns c = AreBytes-fits c.args.bytes.now c.type_inv.bytes

@@ -1,6 +1,0 @@
-use Rattle.std.proofs.Common.{subst}
-use Rattle.ring_object.specs.Bytes.{AreBytes}
-use Rattle.ring_order_proof.proofs.fit_laws.call_keeps_law.Goals as goal
-
-pub returns : goal.returns
-returns g c = λ fits. record { fits = fits; bytes = subst AreBytes c.as_slice.ensures c.bytes_law.ensures }

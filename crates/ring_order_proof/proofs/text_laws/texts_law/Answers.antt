@@ -1,5 +1,0 @@
-use Rattle.ring_order_proof.proofs.RunTexts.{all_texts}
-use Rattle.ring_order_proof.proofs.text_laws.texts_law.Goals as goal
-
-pub returns : goal.returns
-returns g c = all_texts

@@ -1,5 +1,0 @@
-use Rattle.std.proofs.Common.{◌∷◌}
-use Rattle.ring_recover.proofs.history.one_before.Given as goal
-
-abbrev pub ghost-ghost_of : goal.ghost-ghost_of
-ghost-ghost_of g a = a.from.now.1.now ∷ a.from.now.0.now.value

@@ -1,6 +1,0 @@
--- The new value.
-use Rattle.ring_replica.specs.Replicas.{ghost_state_after_ticket}
-use Rattle.ring_replica.proofs.history.given.Given as goal
-
-abbrev pub ghost-ghost_step : goal.ghost-ghost_step
-ghost-ghost_step g a = λ ghost_state f. ghost_state_after_ticket ghost_state f.0.now f.1

@@ -1,6 +1,0 @@
--- The new value.
-use Rattle.ring_log.specs.Epochs.{epochs_with_trim}
-use Rattle.ring_replication.proofs.history.dropped.Given as goal
-
-abbrev pub ghost-ghost_step : goal.ghost-ghost_step
-ghost-ghost_step g a = λ epochs places. epochs_with_trim places epochs

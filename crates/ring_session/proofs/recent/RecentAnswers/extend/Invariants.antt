@@ -1,7 +1,0 @@
--- The answers so far are appended.
-use Rattle.std.proofs.Common.{◌≡◌, ◌++◌, map, take}
-use Rattle.ring_session.specs.RecentAnswers.{last_kept, kept_of}
-use Rattle.ring_session.proofs.recent.RecentAnswers.extend.Given as goal
-
-abbrev pub invariant-loop-answered : goal.invariant-loop-answered
-invariant-loop-answered g l = l.self ≡ last_kept (l.fn.self ++ map kept_of (take l.answered-index l.answers))

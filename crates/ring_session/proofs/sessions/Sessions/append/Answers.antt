@@ -1,8 +1,0 @@
-use Rattle.ring_session.proofs.Parts.{stays-either}
-use Rattle.ring_session.proofs.sessions.Sessions.append.Goals as goal
-
-pub returns-clause-front : goal.returns-clause-front
-returns-clause-front g c =
-    let old = c.args.out.now in
-    stays-either c.append_sized.result old.items c.append_clients.new.out.items c.append_sized.new.out.items _ old.len old.ok.0
-    c.in_ok-append_clients.ensures.front c.append_sized.ensures.ok c.append_sized.ensures.err

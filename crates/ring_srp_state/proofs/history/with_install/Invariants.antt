@@ -1,6 +1,0 @@
--- The chosen ghost value.
-use Rattle.ring_srp_state.specs.Histories.{with_install}
-use Rattle.ring_srp_state.proofs.history.with_install.Given as goal
-
-abbrev pub ghost-ghost_step : goal.ghost-ghost_step
-ghost-ghost_step g a = with_install

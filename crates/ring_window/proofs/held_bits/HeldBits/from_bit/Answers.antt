@@ -1,6 +1,0 @@
-use Rattle.std.proofs.Common.{arith}
-use Rattle.ring_window.proofs.WordBits.{four_words}
-use Rattle.ring_window.proofs.held_bits.HeldBits.from_bit.Goals as goal
-
-pub returns : goal.returns
-returns c = four_words c.args.self.now.words c.args.first _ _ _ _ (omega arith) c.word_at.ensures c.word_at-2.ensures c.word_at-3.ensures c.word_at-4.ensures

@@ -1,5 +1,0 @@
-use Rattle.std.proofs.Common.{◌∷◌}
-use Rattle.ring_window.proofs.history.one_more.Given as goal
-
-abbrev pub ghost-ghost_of : goal.ghost-ghost_of
-ghost-ghost_of g a = a.from.now.1.now ∷ a.from.now.0.now.value

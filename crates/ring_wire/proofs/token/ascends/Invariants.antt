@@ -1,7 +1,0 @@
-use Rattle.std.proofs.Common.{◌≡◌, drop}
-use Rattle.ring_wire.specs.Ascending.{ascends as ascends_to}
-use Rattle.ring_wire.proofs.token.ascends.Given as goal
-
--- the rest decides
-abbrev pub invariant-loop-index : goal.invariant-loop-index
-invariant-loop-index l = ascends_to l.low l.greatest (drop l.index l.numbers) ≡ ascends_to 0 l.greatest l.numbers

@@ -1,6 +1,0 @@
--- The ghost value.
-use Rattle.std.proofs.Common.{[]}
-use Rattle.ring_world.proofs.frames.no_sent_frames.Given as goal
-
-abbrev pub ghost-ghost_of : goal.ghost-ghost_of
-ghost-ghost_of g a = []
