@@ -19,7 +19,7 @@ last_seen (p ∷ ps) i = cond (p.0 == i) p.1 (last_seen ps i)
 
 -- the value that a seat last saw of the word i
 abbrev pub last_seen_by : GaugeView → ℕ → ℕ
-last_seen_by v i = last_seen v.seen i
+last_seen_by v i = last_seen v.loaded_words i
 
 -- A seat's view fits the words: it knows all that its own node published, and each value that it saw is 0 or was
 -- published, and is at most the word. The maker knows which nodes have no seat yet.
