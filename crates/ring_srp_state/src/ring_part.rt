@@ -62,8 +62,8 @@ impl<A: Allocator + Copy> WindowAndVisits<A> {
     /// contracts.
     ///
     /// The forwarded token is addressed to `to`. It requests the 32 smallest of `remaining_requests`, which must be
-    /// strictly ascending, and of the numbers up to `seq` plus `count` that the window lacks. If `last_sent` is a token,
-    /// it is overwritten in place. Does not allocate.
+    /// strictly ascending, and of the numbers up to `seq` plus `count` that the window lacks. If `last_sent` is a
+    /// token, it is overwritten in place. Does not allocate.
     ///
     /// Rules: Token and window 7, 8 and 10
     pub fn forward_token(
