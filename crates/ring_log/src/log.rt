@@ -122,8 +122,8 @@ impl<A: Allocator + Copy> Log<A> {
     /// If the base has a snapshot of more places than are committed, the log is restored: those places are then treated
     /// as committed and dropped, and the base's calls follow them. Otherwise the log keeps its own places below the
     /// base, and the base's calls follow, without those of dropped places; the committed and the trimmed length are
-    /// unchanged. If the base may not be adopted, returns `Refused`: the log is unchanged, and the base is lost. Whether
-    /// `ring` is newer than the last primary isn't checked. Calls are moved, not copied.
+    /// unchanged. If the base may not be adopted, returns `Refused`: the log is unchanged, and the base is lost.
+    /// Whether `ring` is newer than the last primary isn't checked. Calls are moved, not copied.
     ///
     /// Errors: `Memory` if an allocation fails; the log is unchanged, and the base is lost.
     ///

@@ -182,8 +182,8 @@ impl<A: Allocator + Copy> Srp<A> {
 
     /// Runs one step on a timeout of this kind.
     ///
-    /// Appends the frames to be sent to `sends`, which must be empty, and returns the other outputs. A timeout that has no
-    /// effect in the core's state has no outputs.
+    /// Appends the frames to be sent to `sends`, which must be empty, and returns the other outputs. A caller can reuse
+    /// `sends`, with its capacity, from step to step. If a proposal is due, any timeout makes it.
     ///
     /// Errors: `Stopped` if the core had already stopped; it is unchanged. `Memory` if an allocation fails: the core
     /// has then stopped for good, the step's outputs are dropped, and the contents of `sends` are unspecified, so clear
@@ -223,8 +223,8 @@ impl<A: Allocator + Copy> Srp<A> {
     /// In every other state the payload is dropped. An End, a Wrapped or a Pack is dropped in every state. The step has
     /// no outputs.
     ///
-    /// Errors: `Stopped` if the core had already stopped. `Memory` if an allocation fails. The core is unchanged by each;
-    /// unlike a step, a send that returns `Memory` doesn't stop it.
+    /// Errors: `Stopped` if the core had already stopped. `Memory` if an allocation fails. The core is unchanged by
+    /// each: unlike a step, a send that returns `Memory` doesn't stop it.
     ///
     /// Rules: Rings and states 9 and 12; Refusals 4 and 5
     pub fn send(&mut self, payload: Payload<A>) -> Result<(), Fault>
