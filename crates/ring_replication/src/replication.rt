@@ -92,8 +92,8 @@ impl<A: Allocator + Copy + Drop> Clone for Replication<A> {
 impl<A: Allocator + Copy + Drop> Replication<A> {
     /// Creates the replication of processor `me` at the opening, in the ring (0, `me`), with an empty log.
     ///
-    /// If `me` alone is primary, the exchange of that ring is open, with nothing received; otherwise there is none. That
-    /// `me` is in the group isn't checked. Does not allocate.
+    /// If `me` alone is primary, the exchange of that ring is open, with nothing received; otherwise there is none.
+    /// That `me` is in the group isn't checked. Does not allocate.
     ///
     /// Rules: The replicated log 1
     pub fn new(alloc: A, fixed: Fixed, me: Proc) -> Replication<A>
