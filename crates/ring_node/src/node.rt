@@ -177,8 +177,8 @@ impl<O: Object> Node<O> {
 
     /// Runs one step on a borrowed input and stores the outputs in `outs`.
     ///
-    /// Otherwise the same as `step`. The node copies the input's frame, unless it is a token that is accepted. The lists
-    /// of `outs` are emptied first, and the capacity of `sends` is reused.
+    /// Otherwise the same as `step`. The node copies the input's frame, unless it is a token that is accepted. The
+    /// lists of `outs` are emptied first, and the capacity of `sends` is reused.
     ///
     /// Errors: those of `step`; `outs` is then empty.
     ///

@@ -166,8 +166,8 @@ impl<O: Object> Replica<O> {
     /// Gives a submitted call the next ticket and returns it.
     ///
     /// Tickets are numbered from 0. `check_ticket_available` must have returned Ok, and the replica must be between two
-    /// steps. `running` is as for [`has_adopted`](Replica::has_adopted). If the running ring is adopted, the caller must
-    /// hand the call to the core; the replica records that it does. Does not allocate.
+    /// steps. `running` is as for [`has_adopted`](Replica::has_adopted). If the running ring is adopted, the caller
+    /// must hand the call to the core; the replica records that it does. Does not allocate.
     ///
     /// Rules: The replicated log 10 and 13
     pub fn give_ticket(&mut self, running: &Option<RingId>, call: Call<O::Alloc>) -> Ticket
@@ -205,8 +205,8 @@ impl<O: Object> Replica<O> {
     ///
     /// `running` is the ring in which the core is Operational after its step, or `None` in every other state. The
     /// replica must not have stopped, and must be between two steps. No `Safe` in `outs` may have a lower mark than the
-    /// one before in its ring. The replica stops, with an empty output, if a base may not be adopted, its bytes aren't a
-    /// snapshot, or the log would be too long.
+    /// one before in its ring. The replica stops, with an empty output, if a base may not be adopted, its bytes aren't
+    /// a snapshot, or the log would be too long.
     ///
     /// Errors: `Memory` if an allocation fails; the replica has then stopped, with its log from before the step.
     ///
@@ -300,9 +300,9 @@ impl<O: Object> Replica<O> {
 
     /// Ends a step in which `answers` were given, and returns the calls of the places that it dropped, in order.
     ///
-    /// `answers` must be those of the output of [`step`](Replica::step), and the output's payloads must have been handed
-    /// to the core. The replica's reports then show its state after the step. If no place was dropped, or if the replica
-    /// has stopped, the list is empty; in the latter case nothing changes. Does not allocate.
+    /// `answers` must be those of the output of [`step`](Replica::step), and the output's payloads must have been
+    /// handed to the core. The replica's reports then show its state after the step. If no place was dropped, or if the
+    /// replica has stopped, the list is empty; in the latter case nothing changes. Does not allocate.
     ///
     /// Rules: The replicated log 18 and 20
     pub fn end_replica_step(

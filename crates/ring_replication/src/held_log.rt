@@ -65,8 +65,6 @@ impl<A: Allocator + Copy + Drop> HeldLog<A> {
 
     /// Returns the log as it is now, which may be in the middle of a step.
     ///
-    /// Does not allocate.
-    ///
     /// Rules: The replicated log 1
     pub fn log(&self) -> &Log<A>
         ensures { result.now ≡ self.now.log }
