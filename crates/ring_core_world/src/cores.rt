@@ -103,8 +103,8 @@ impl<A: Allocator + Copy> CoreWorld<A> {
     /// Applies an event to the world and returns the world after it.
     ///
     /// The outputs of the step are added at the end of [`outs`](CoreWorld::outs). An event changes nothing if it names
-    /// an unknown processor or a stopped one, or a frame that wasn't sent or wasn't sent to that processor. A payload in
-    /// it must be within the limits of its format, as every decoded payload is. A stop does not allocate.
+    /// an unknown processor or a stopped one, or a frame that wasn't sent or wasn't sent to that processor. A payload
+    /// in it must be within the limits of its format, as every decoded payload is. A stop does not allocate.
     ///
     /// Errors: `Memory` if an allocation fails; the world is lost.
     ///
