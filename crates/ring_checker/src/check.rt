@@ -29,11 +29,11 @@ struct OrderPlace {
 
 /// Returns whether `order` is a linearization of `history` for the object `O`.
 ///
-/// It is if all of these hold:
+/// It is one if and only if all of these hold:
 /// - Each client's calls are numbered 1, 2, .. in the order.
 /// - Each call of the order was issued, with the same operation.
 /// - Each reply in the history is the object's reply at its call's place in the order.
-/// - A call that was replied before another was issued comes earlier in the order.
+/// - If a call was replied to before another call was issued, it comes earlier in the order.
 ///
 /// So the empty order is a linearization of every history without replies. Apart from the object's own calls, the time
 /// is O(n log n) in the number of calls and items together: one lookup among the clients for each.

@@ -22,6 +22,8 @@ pub type OrderIndex<A: Allocator> = BTreeMap<u32, Vec<usize, A>, A>;
 
 /// Returns the index of an order, or `None` if some client's calls aren't numbered 1, 2, .. in it.
 ///
+/// The index of an empty order is empty.
+///
 /// Errors: `Memory` if an allocation fails.
 ///
 /// Rules: Sessions 10
@@ -143,8 +145,9 @@ fn is_successor(last: u64, number: u64) -> bool
 
 /// Returns the first place of the call in the order, counted from 0, and sets `next` to the place after it.
 ///
-/// Returns `None`, and leaves `next` unchanged, if the call isn't in the order. The place `next` is tried before the
-/// index, since calls mostly come in the order's own sequence. `index` must be the index of `order`.
+/// Returns `None`, and leaves `next` unchanged, if the call isn't in the order with the same operation. The place
+/// `next` is tried before the index, since calls mostly come in the order's own sequence; any value is allowed, and
+/// it doesn't change the result. `index` must be the index of `order`. Does not allocate.
 ///
 /// Rules: Sessions 10
 pub fn place_in_order_near<A: Allocator + Copy>(

@@ -102,8 +102,9 @@ impl<A: Allocator + Copy> CoreWorld<A> {
 
     /// Applies an event to the world and returns the world after it.
     ///
-    /// An event changes nothing if it names an unknown processor, or a frame that wasn't sent or wasn't sent to that
-    /// processor. A payload in it must be within the limits of its format, as every decoded payload is.
+    /// The outputs of the step are added at the end of [`outs`](CoreWorld::outs). An event changes nothing if it names
+    /// an unknown processor or a stopped one, or a frame that wasn't sent or wasn't sent to that processor. A payload
+    /// in it must be within the limits of its format, as every decoded payload is. A stop does not allocate.
     ///
     /// Errors: `Memory` if an allocation fails; the world is lost.
     ///
@@ -200,7 +201,7 @@ impl<A: Allocator + Copy> CoreWorld<A> {
 
     /// Returns all outputs since the opening in order, each with its processor.
     ///
-    /// The outputs of the opening of a formed ring aren't included.
+    /// The outputs of the opening of a formed ring aren't included. Does not allocate.
     ///
     /// Rules: Rings and states 15
     pub fn outs(&self) -> &[(Proc, Out<A>)]
@@ -209,9 +210,9 @@ impl<A: Allocator + Copy> CoreWorld<A> {
         &self.outs
     }
 
-    /// Returns all outputs since the opening in order, each with its processor, and drops the rest of the world.
+    /// Consumes the world, and returns all outputs since the opening in order, each with its processor.
     ///
-    /// The outputs of the opening of a formed ring aren't included.
+    /// The outputs of the opening of a formed ring aren't included. Does not allocate.
     ///
     /// Rules: Rings and states 15
     pub fn into_outs(self) -> Vec<(Proc, Out<A>), A>

@@ -67,8 +67,10 @@ impl<A: Allocator + Copy> FixedRing<A> {
 
     /// Runs a list of events from the formed ring, and returns all outputs in order, each with its processor.
     ///
-    /// Call it only once. The outputs of the opening aren't included. Of the timeouts only retransmit has an effect. A
-    /// payload in an event must be within the limits of its format, as every decoded payload is.
+    /// Call it only once. The outputs of the opening aren't included. Of the timeouts only retransmit has an effect;
+    /// the others are skipped, and count as done. An event changes nothing if it names an unknown processor or a
+    /// stopped one, or a frame that wasn't sent or wasn't sent to that processor. A payload in an event must be within
+    /// the limits of its format, as every decoded payload is.
     ///
     /// Errors: `Memory` if an allocation fails; the cores and the outputs are lost. [`done`](FixedRing::done) then
     /// returns how many events were done, fewer than there are.
@@ -97,7 +99,8 @@ impl<A: Allocator + Copy> FixedRing<A> {
 
     /// Returns the number of events done in the run.
     ///
-    /// It is 0 before the run, the number of all events after a successful run, and less after a failed one.
+    /// It is 0 before the run, the number of all events after a successful run, and less after a failed one. Events
+    /// that changed nothing count as well.
     ///
     /// Rules: Rings and states 15
     pub fn done(&self) -> u64

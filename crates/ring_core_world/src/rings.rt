@@ -60,8 +60,10 @@ impl<A: Allocator + Copy> Rings<A> {
 
     /// Runs a list of events from the opening, and returns all outputs in order, each with its processor.
     ///
-    /// Call it only once. A payload in an event must be within the limits of its format, as every decoded payload is.
-    /// The run is virtually synchronous, and its commit tokens meet the facts of their two rounds.
+    /// Call it only once. An event changes nothing if it names an unknown processor or a stopped one, or a frame that
+    /// wasn't sent or wasn't sent to that processor. A payload in an event must be within the limits of its format, as
+    /// every decoded payload is. The run is virtually synchronous, and its commit tokens meet the facts of their two
+    /// rounds.
     ///
     /// Errors: `Memory` if an allocation fails; the cores and the outputs are lost. [`done`](Rings::done) then returns
     /// how many events were done, fewer than there are.
@@ -88,7 +90,8 @@ impl<A: Allocator + Copy> Rings<A> {
 
     /// Returns the number of events done in the run.
     ///
-    /// It is 0 before the run, the number of all events after a successful run, and less after a failed one.
+    /// It is 0 before the run, the number of all events after a successful run, and less after a failed one. Events
+    /// that changed nothing count as well.
     ///
     /// Rules: Rings and states 15
     pub fn done(&self) -> u64

@@ -105,9 +105,10 @@ impl<A: Allocator + Copy> Exchange<A> {
 
     /// Applies a member's payload. Returns the base if this payload completes the exchange, otherwise `None`.
     ///
-    /// Payloads must come in the order of the ring. Accepted are a member's first Head; then, from the owner, each next
-    /// piece of a wanted snapshot, and then each next Part of the wanted places. Every other payload is ignored, even
-    /// if it would be wanted later. The base is returned only once, and its bytes and calls leave the exchange.
+    /// Payloads must come in the order of the ring; this isn't checked. Accepted are a member's first Head; then, from
+    /// the owner, each next piece of a wanted snapshot, and then each next Part of the wanted places. Every other
+    /// payload is ignored, even if it would be wanted later, and so is one of a processor that isn't a member. The base
+    /// is returned only once, and its bytes and calls leave the exchange.
     ///
     /// Errors: `Memory` if an allocation fails; the exchange is unchanged.
     ///

@@ -98,7 +98,7 @@ impl<A: Allocator + Copy> Log<A> {
     /// Appends calls in their order, and returns true. If the log would then have more than `MAX` places, appends none
     /// of them and returns false.
     ///
-    /// The log shares the bytes of their operations with `calls`.
+    /// An empty list changes nothing. The log shares the bytes of the calls' operations with `calls`.
     ///
     /// Errors: `Memory` if an allocation fails; the log is unchanged.
     ///
@@ -121,7 +121,9 @@ impl<A: Allocator + Copy> Log<A> {
     ///
     /// If the base has a snapshot of more places than are committed, the log is restored: those places are then treated
     /// as committed and dropped, and the base's calls follow them. Otherwise the log keeps its own places below the
-    /// base, and the base's calls follow, without those of dropped places. Calls are moved, not copied.
+    /// base, and the base's calls follow, without those of dropped places; the committed and the trimmed length are
+    /// unchanged. If the base may not be adopted, returns `Refused`: the log is unchanged, and the base is lost.
+    /// Whether `ring` is newer than the last primary isn't checked. Calls are moved, not copied.
     ///
     /// Errors: `Memory` if an allocation fails; the log is unchanged, and the base is lost.
     ///
@@ -188,7 +190,7 @@ impl<A: Allocator + Copy> Log<A> {
     /// Returns whether a base may be adopted.
     ///
     /// It must restore the log, or leave no hole and begin with the committed places that the log has kept. The log
-    /// must then have at most `MAX` places. In a run only this limit can refuse a base.
+    /// must then have at most `MAX` places. In a run only this limit can refuse a base. Does not allocate.
     ///
     /// Rules: The replicated log 8 and 9
     pub fn may_adopt(&self, base: &Base<A>) -> bool
@@ -232,7 +234,7 @@ impl<A: Allocator + Copy> Log<A> {
 
     /// Raises the committed length to `n`, or to the log's length if that is less.
     ///
-    /// It never falls: a smaller `n` changes nothing.
+    /// It never falls: a smaller `n` changes nothing. Does not allocate.
     ///
     /// Rules: The replicated log 12 and 19
     pub fn commit_upto(&mut self, n: u64)
@@ -241,7 +243,8 @@ impl<A: Allocator + Copy> Log<A> {
         self.committed = self.committed.max(n.min(self.length()));
     }
 
-    /// Returns whether the committed places are due to be dropped: whether the log has kept 256 or more of them.
+    /// Returns whether the committed places are due to be dropped: whether the log has kept 256 or more of them. Does
+    /// not allocate.
     ///
     /// Rules: The replicated log 19 and 20
     pub fn is_due_to_trim(&self) -> bool
@@ -252,7 +255,9 @@ impl<A: Allocator + Copy> Log<A> {
 
     /// Drops the committed places, and returns a log with only these places.
     ///
-    /// The committed length becomes the trimmed length. Calls are moved, not copied.
+    /// The trimmed length rises to the committed length, which is unchanged, as are the length and the last primary. If
+    /// no committed place is kept, nothing changes, and the returned log has no calls. Whether the places are due to be
+    /// dropped isn't checked. Calls are moved, not copied.
     ///
     /// Errors: `Memory` if an allocation fails; the log is unchanged.
     ///
@@ -274,7 +279,9 @@ impl<A: Allocator + Copy> Log<A> {
         Ok(mem::replace(self, rest))
     }
 
-    /// Returns the calls of all places that haven't been dropped, in order, committed or not.
+    /// Consumes the log, and returns the calls of all places that haven't been dropped, in order, committed or not.
+    ///
+    /// Does not allocate.
     ///
     /// Rules: The replicated log 1
     pub fn into_calls(self) -> Vec<Call<A>, A>
@@ -283,7 +290,8 @@ impl<A: Allocator + Copy> Log<A> {
         self.calls
     }
 
-    /// Returns the Head of this log: its last primary, and its length, committed length and trimmed length.
+    /// Returns the Head of this log: its last primary, and its length, committed length and trimmed length. Does not
+    /// allocate.
     ///
     /// Rules: The replicated log 2 and 19
     pub fn head(&self) -> Head
@@ -297,7 +305,7 @@ impl<A: Allocator + Copy> Log<A> {
         }
     }
 
-    /// Returns the number of places, committed or not, dropped ones included: 0 to `MAX`.
+    /// Returns the number of places, committed or not, dropped ones included: 0 to `MAX`. Does not allocate.
     ///
     /// Rules: The replicated log 1
     pub fn length(&self) -> u64
@@ -306,8 +314,9 @@ impl<A: Allocator + Copy> Log<A> {
         self.trimmed + self.calls.len() as u64
     }
 
-    /// Returns how many places have been dropped, all from the beginning of the log. It is at most the committed
-    /// length.
+    /// Returns how many places have been dropped, all from the beginning of the log.
+    ///
+    /// It is at most the committed length. Does not allocate.
     ///
     /// Rules: The replicated log 1 and 20
     pub fn trimmed(&self) -> u64
@@ -316,7 +325,9 @@ impl<A: Allocator + Copy> Log<A> {
         self.trimmed
     }
 
-    /// Returns the number of committed places, dropped ones included. They are the first places of the log.
+    /// Returns the number of committed places, dropped ones included.
+    ///
+    /// They are the first places of the log. Does not allocate.
     ///
     /// Rules: The replicated log 1 and 12
     pub fn committed_length(&self) -> u64
@@ -325,7 +336,8 @@ impl<A: Allocator + Copy> Log<A> {
         self.committed
     }
 
-    /// Returns the last primary, which is the newest ring adopted, or `None` before the first adoption.
+    /// Returns the last primary, which is the newest ring adopted, or `None` before the first adoption. Does not
+    /// allocate.
     ///
     /// Rules: The replicated log 1 and 6
     pub fn last_primary(&self) -> Option<RingId>
@@ -336,7 +348,7 @@ impl<A: Allocator + Copy> Log<A> {
 
     /// Returns the calls of all places that haven't been dropped, in order, committed or not.
     ///
-    /// The first is at place [`trimmed`](Log::trimmed).
+    /// The first is at place [`trimmed`](Log::trimmed). Does not allocate.
     ///
     /// Rules: The replicated log 1
     pub fn calls(&self) -> &[Call<A>]
@@ -347,7 +359,7 @@ impl<A: Allocator + Copy> Log<A> {
 
     /// Returns the calls of the committed places that haven't been dropped, in order.
     ///
-    /// The first is at place [`trimmed`](Log::trimmed).
+    /// The first is at place [`trimmed`](Log::trimmed). Does not allocate.
     ///
     /// Rules: The replicated log 1 and 12
     pub fn committed_calls(&self) -> &[Call<A>]
@@ -356,10 +368,10 @@ impl<A: Allocator + Copy> Log<A> {
         &self.calls[..(self.committed - self.trimmed) as usize]
     }
 
-    /// Returns the Parts of the wanted places. This must be the owner's log, which has dropped none of them.
+    /// Returns the Parts of the wanted places, in order.
     ///
-    /// Each Part has 7 places, the last perhaps fewer. There are none if nothing is wanted. Wanted places past the end
-    /// of the log are left out.
+    /// This must be the owner's log, which has dropped none of them; neither is checked. Each Part has 7 places, the
+    /// last perhaps fewer. There are none if nothing is wanted. Wanted places past the end of the log are left out.
     ///
     /// Errors: `Memory` if an allocation fails.
     ///

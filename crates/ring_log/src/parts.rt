@@ -15,7 +15,7 @@ const CALLS_PER_PART: usize = MAX_PART_CALLS as usize;
 
 /// Returns the Parts of these calls, the first of which is at place `at` of the log, counted from 0.
 ///
-/// Without a call there is no Part.
+/// If there are no calls, there are no Parts.
 ///
 /// Errors: `Memory` if an allocation fails.
 ///

@@ -16,8 +16,8 @@ const BYTES_PER_PIECE: usize = MAX_PIECE_BYTES as usize;
 
 /// Returns the Snaps of a snapshot of a log's first `at` places, in order.
 ///
-/// Each has 7,000 of its bytes, the last perhaps fewer. `bytes` must have at most 16,777,216 bytes. Without a byte
-/// there is no Snap.
+/// Each has 7,000 of its bytes, the last perhaps fewer. `bytes` must have at most 16,777,216 bytes. If it is empty,
+/// there are no Snaps.
 ///
 /// Errors: `Memory` if an allocation fails.
 ///

@@ -20,10 +20,10 @@ pub struct ReceivedHead {
 }
 
 impl ReceivedHead {
-    /// Returns whether `other` is to be chosen rather than this Head.
+    /// Returns whether `other` takes precedence over this Head.
     ///
-    /// It is if its last primary is greater, where `None` is least. If they are equal, the greater length decides, and
-    /// then the smaller sender.
+    /// The greater last primary does, `None` being the least. If they are equal, the greater length decides, and then
+    /// the smaller sender. Does not allocate.
     ///
     /// Rules: The replicated log 5
     pub fn is_chosen_after(&self, other: &ReceivedHead) -> bool

@@ -36,7 +36,9 @@ impl<A: Allocator + Copy> Clone for Snapshot<A> {
 }
 
 impl<A: Allocator + Copy> Snapshot<A> {
-    /// Creates a snapshot from its bytes. They are not checked to be a snapshot. Does not allocate.
+    /// Creates a snapshot from its bytes.
+    ///
+    /// Whether they encode a snapshot isn't checked. Does not allocate.
     pub fn from_vec(bytes: Vec<u8, A>) -> Snapshot<A>
         ensures { result ≡ bytes.items }
     {

@@ -12,7 +12,7 @@ ghost use Rattle.ring_log_proof.specs.Examples.{first_ring, second_ring, call_by
 ghost use Rattle.ring_log_proof.specs.Examples.{life_of_one, life_of_two, life_of_three, missing_heads, misheard, smaller, silent, falling, older_head, late_head};
 ghost use Rattle.ring_log_proof.specs.Examples.{wrong_part};
 
-/// States an example: of three processors that formed a ring, two go on in a second one.
+/// States an example of consistent epochs: of three processors that formed a ring, two go on in a second one.
 ///
 /// Their epochs have the facts that the ring core guarantees, the nodes keep their rules, and the logs, the committed
 /// places and the exchange are as listed.
@@ -31,15 +31,15 @@ pub fn epochs_of_three()
     ensures log { ring_log group_of_three node_epochs second_ring 3 second_exchange ≡ Some (call_by 7 ∷ []) }
 {}
 
-/// States examples of epochs that processor 2 can't have had. Each breaks one fact of the ring core or one rule of
-/// nodes.
+/// States examples of epochs that processor 2 can't have had. Each breaks at least one fact of the ring core or one
+/// rule of nodes.
 ///
 /// - `missing_heads`: processor 1 knows messages as safe that processor 2 hasn't received.
 /// - `misheard`: it received a Head that isn't in the ring's text.
-/// - `smaller`: it was in a ring with other members.
-/// - `silent`: it sent a payload that was never handed over.
+/// - `smaller`: its epoch in the ring names fewer members than the ring has.
+/// - `silent`: the ring's text has a payload of it that it never handed over.
 /// - `falling`: the ring numbers fall.
-/// - `older_head`: its Head names a ring before the last primary.
+/// - `older_head`: its Head names no last primary, although it had adopted a ring.
 /// - `late_head`: its Head comes after a call.
 /// - `wrong_part`: its Part has a place that isn't in its log.
 ///

@@ -118,7 +118,7 @@ pub fn adoption_law<A: Allocator + Copy>()
 
 /// States that the log that a node knows is its whole log without the places that its last restored snapshot replaces.
 ///
-/// The law holds for all epochs of a node that are sound and in which only committed places were dropped: epochs are
+/// The law holds for all epochs of a node that are sound and in which only committed places were dropped. Epochs are
 /// sound if each base begins with the places committed before. The node's Head then reports the whole log. If each base
 /// begins with the places committed before, the known log is sound exactly if the whole log is.
 ///
@@ -163,8 +163,8 @@ pub fn snapshot_places_law<A: Allocator + Copy>()
 
 /// States that each call of a log was handed to some core in a Call, whatever Parts have carried it since.
 ///
-/// So if all calls handed over are in a list, such as that of the issued calls, all calls of all logs and of their
-/// committed places are in it. The law holds for all consistent epochs.
+/// So a list that contains every call handed over, such as the list of issued calls, contains every call of every log,
+/// committed or not. The law holds for all consistent epochs.
 ///
 /// Rules: The replicated log 10 and 11; Sessions 10
 pub fn only_issued_calls_law<A: Allocator + Copy>()

@@ -109,7 +109,8 @@ impl<O: Object> Node<O> {
     /// gave.
     ///
     /// The call must be within the limits of a call, as each one from `Call::new` is. It is sent at once if the node
-    /// has adopted the running ring, otherwise as soon as it adopts one.
+    /// has adopted the running ring, otherwise as soon as it adopts one. A submit has no outputs: the frames leave the
+    /// node in a later step, and so does the answer.
     ///
     /// Errors, in this order: `Stopped` if the node has stopped. `PendingFull` if 64 tickets are unanswered or 2^62
     /// have been given. `Memory` if an allocation fails. The node is unchanged by each.
@@ -176,10 +177,8 @@ impl<O: Object> Node<O> {
 
     /// Runs one step on a borrowed input and stores the outputs in `outs`.
     ///
-    /// Otherwise the same as `step`.
-    ///
-    /// The node copies the input's frame, unless it is a token. The lists of `outs` are emptied first, and their
-    /// capacity is reused.
+    /// Otherwise the same as `step`. The node copies the input's frame, unless it is a token that is accepted. The
+    /// lists of `outs` are emptied first, and the capacity of `sends` is reused.
     ///
     /// Errors: those of `step`; `outs` is then empty.
     ///
@@ -258,6 +257,8 @@ impl<O: Object> Node<O> {
 
     /// Returns the calls at the committed places that haven't been dropped, in order, including repeats.
     ///
+    /// After a stop, they are those at the end of the last finished step. Does not allocate.
+    ///
     /// Rules: The replicated log 18
     pub fn committed(&self) -> &[Call<O::Alloc>]
         ensures { result.now ≡ node_committed self.now }
@@ -266,6 +267,8 @@ impl<O: Object> Node<O> {
     }
 
     /// Returns the node's state, which is `Stopped` once the node has stopped.
+    ///
+    /// Does not allocate.
     ///
     /// Rules: Rings and states 6
     pub fn state(&self) -> State
@@ -280,7 +283,7 @@ impl<O: Object> Node<O> {
 
     /// Returns the last installed ring, which is (0, `me`) before the first installation.
     ///
-    /// After a stop, it is the ring at the time of the stop.
+    /// After a stop, it is the ring at the time of the stop. Does not allocate.
     ///
     /// Rules: Rings and states 3 and 5; The replicated log 18
     pub fn ring(&self) -> RingId
@@ -291,7 +294,7 @@ impl<O: Object> Node<O> {
 
     /// Returns the members of the last installed ring, which are only `me` before the first installation.
     ///
-    /// After a stop, they are those at the time of the stop.
+    /// After a stop, they are those at the time of the stop. Does not allocate.
     ///
     /// Rules: Rings and states 3 and 5; The replicated log 18
     pub fn members(&self) -> ProcSet
@@ -302,7 +305,7 @@ impl<O: Object> Node<O> {
 
     /// Returns the number of committed places, including dropped ones.
     ///
-    /// It never falls.
+    /// It never falls. Does not allocate.
     ///
     /// Rules: The replicated log 12 and 18
     pub fn committed_len(&self) -> u64
@@ -313,6 +316,8 @@ impl<O: Object> Node<O> {
 
     /// Returns the number of committed places that have been dropped, which are those before the first of `committed`.
     ///
+    /// It never falls. Does not allocate.
+    ///
     /// Rules: The replicated log 18 and 20
     pub fn trimmed(&self) -> u64
         ensures { result ≡ node_trimmed self.now }
@@ -321,6 +326,8 @@ impl<O: Object> Node<O> {
     }
 
     /// Returns the number of the log's places, committed or not, including dropped ones.
+    ///
+    /// Does not allocate.
     ///
     /// Rules: The replicated log 18
     pub fn log_len(&self) -> u64
@@ -331,9 +338,8 @@ impl<O: Object> Node<O> {
 
     /// Returns the number of committed calls that took effect.
     ///
-    /// It saturates at `u64::MAX`.
-    ///
-    /// For the places of a restored snapshot, this counts the sum of its clients' last numbers.
+    /// For the places of a restored snapshot, it counts the sum of its clients' last numbers. It saturates at
+    /// `u64::MAX`. Does not allocate.
     ///
     /// Rules: Sessions 6; The replicated log 18
     pub fn order_len(&self) -> u64
@@ -343,6 +349,8 @@ impl<O: Object> Node<O> {
     }
 
     /// Returns the number of unanswered tickets, at most 64.
+    ///
+    /// Does not allocate.
     ///
     /// Rules: The replicated log 13 and 18
     pub fn waiting(&self) -> usize

@@ -23,7 +23,7 @@ pub struct Outs<A: Allocator + Copy + Drop = Global> {
     ///
     /// Rules: The replicated log 14
     pub answers: Vec<TicketAnswer<A>, A>,
-    /// The calls at the newly committed places, in order, except those that a snapshot brought.
+    /// The calls at the newly committed places, in order, including repeats, except those that a snapshot replaces.
     ///
     /// Rules: The replicated log 12 and 18
     pub committed: Vec<Call<A>, A>,

@@ -19,7 +19,7 @@ use ring_session::Object;
 /// This holds for every object. The empty order is a linearization of the empty history. A linearization stays one:
 /// - if issued calls are added at its end, and each client's calls are still numbered 1, 2, .. in it,
 /// - if a call is issued,
-/// - if a call of the order is replied with the object's reply at its place.
+/// - if a call of the order gets the reply that the object gives at the call's place.
 ///
 /// No call occurs twice in a linearization.
 ///

@@ -1,4 +1,4 @@
-//! Received bytes that aren't a frame.
+//! Received bytes that aren't a frame, or that aren't known to be one.
 
 ghost use Rattle.std.specs.Prelude.{◌≡◌};
 
@@ -24,9 +24,10 @@ impl<A: Allocator + Copy> Model for Noise<A> {
 }
 
 impl<A: Allocator + Copy> Noise<A> {
-    /// Wraps the bytes without reading them.
+    /// Wraps received bytes as noise.
     ///
-    /// Does not allocate.
+    /// Whether they encode a frame isn't checked: a step on noise changes nothing, whatever the bytes are. Does not
+    /// allocate.
     ///
     /// Rules: Rings and states 11
     pub fn from_vec(bytes: Vec<u8, A>) -> Noise<A>

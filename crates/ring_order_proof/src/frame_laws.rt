@@ -29,7 +29,7 @@ ghost use Rattle.ring_order_proof.specs.Linear.{IsEventCallWithinLimits};
 
 use ring_object::Object;
 
-/// States that one step sends at most 64 frames and answers at most the unanswered tickets.
+/// States that one step sends at most 64 frames and gives at most as many answers as there are unanswered tickets.
 ///
 /// This holds for every core and every node in any state. The bound on frames requires that the input is within the
 /// limits of its format.

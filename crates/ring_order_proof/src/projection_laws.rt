@@ -15,8 +15,8 @@ use ring_object::Object;
 ///
 /// This holds for every list of events. In the run of cores, handing a payload to a core is an event of its own. Each
 /// node's epochs, without their payloads and trimmed lengths, consist of its core's outputs. If a node's log stops the
-/// node, its core stops. The cores' events and outputs are determined by the nodes' events, one after another, so a
-/// longer run extends a shorter one.
+/// node, its core stops. The cores' events and outputs are determined by the nodes' events, one after another, so that
+/// a longer run extends a shorter one.
 ///
 /// Rules: Rings and states 14; The replicated log 1
 pub fn projection_law<O: Object>()

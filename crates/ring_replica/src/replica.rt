@@ -76,6 +76,8 @@ impl<O: Object> Replica<O> {
     /// Creates the replica of processor `me` at the opening: an empty log, no tickets, and the object in its start
     /// state.
     ///
+    /// That `me` is in the group isn't checked.
+    ///
     /// Errors: `Memory` if an allocation fails.
     ///
     /// Rules: The replicated log 1
@@ -163,11 +165,9 @@ impl<O: Object> Replica<O> {
 
     /// Gives a submitted call the next ticket and returns it.
     ///
-    /// Tickets count from 0.
-    ///
-    /// `check_ticket_available` must have returned Ok, and the replica must be between two steps. `running` is as for
-    /// [`has_adopted`](Replica::has_adopted). If the running ring is adopted, the caller must hand the call to the
-    /// core; the replica records that it does. Does not allocate.
+    /// Tickets are numbered from 0. `check_ticket_available` must have returned Ok, and the replica must be between two
+    /// steps. `running` is as for [`has_adopted`](Replica::has_adopted). If the running ring is adopted, the caller
+    /// must hand the call to the core; the replica records that it does. Does not allocate.
     ///
     /// Rules: The replicated log 10 and 13
     pub fn give_ticket(&mut self, running: &Option<RingId>, call: Call<O::Alloc>) -> Ticket
@@ -186,7 +186,7 @@ impl<O: Object> Replica<O> {
     /// nothing.
     ///
     /// It is false if committed places are due to be dropped. The replica must not have stopped, and must be between
-    /// two steps.
+    /// two steps. Does not allocate.
     ///
     /// Rules: The replicated log 20
     pub fn is_step_idle(&self) -> bool
@@ -203,9 +203,10 @@ impl<O: Object> Replica<O> {
     ///
     /// `end_replica_step` must follow and ends the step.
     ///
-    /// `running` is the ring in which the core is Operational after its step. The replica must not have stopped, and
-    /// must be between two steps. The replica stops, with an empty output, if a base may not be adopted, its bytes
-    /// aren't a snapshot, or the log would be too long.
+    /// `running` is the ring in which the core is Operational after its step, or `None` in every other state. The
+    /// replica must not have stopped, and must be between two steps. No `Safe` in `outs` may have a lower mark than the
+    /// one before in its ring. The replica stops, with an empty output, if a base may not be adopted, its bytes aren't
+    /// a snapshot, or the log would be too long.
     ///
     /// Errors: `Memory` if an allocation fails; the replica has then stopped, with its log from before the step.
     ///
@@ -299,7 +300,9 @@ impl<O: Object> Replica<O> {
 
     /// Ends a step in which `answers` were given, and returns the calls of the places that it dropped, in order.
     ///
-    /// Does not allocate. If the replica has stopped, nothing changes and nothing is returned.
+    /// `answers` must be those of the output of [`step`](Replica::step), and the output's payloads must have been
+    /// handed to the core. The replica's reports then show its state after the step. If no place was dropped, or if the
+    /// replica has stopped, the list is empty; in the latter case nothing changes. Does not allocate.
     ///
     /// Rules: The replicated log 18 and 20
     pub fn end_replica_step(
@@ -327,9 +330,7 @@ impl<O: Object> Replica<O> {
         take_leaving(self.alloc, &mut self.log_being_dropped)
     }
 
-    /// Stops the replica for good.
-    ///
-    /// Its log and its answers stay readable.
+    /// Stops the replica for good. Its log and its answers stay readable.
     ///
     /// Does nothing if it has already stopped. Does not allocate.
     ///
@@ -342,8 +343,8 @@ impl<O: Object> Replica<O> {
 
     /// Returns whether the replica has stopped for good.
     ///
-    /// It stops by `stop`, by `Memory` in a step, and by a step whose base may not be adopted, whose snapshot's bytes
-    /// aren't one, or whose log would be too long.
+    /// It stops when `stop` is called, when a step fails with `Memory`, and in a step whose base may not be adopted,
+    /// whose snapshot is malformed, or whose log would become too long. Does not allocate.
     ///
     /// Rules: Rings and states 12; The replicated log 8 and 9; Refusals 6
     pub fn is_stopped(&self) -> bool
@@ -365,6 +366,8 @@ impl<O: Object> Replica<O> {
 
     /// Returns the calls at the committed places that haven't been dropped, in order, including repeats.
     ///
+    /// Does not allocate.
+    ///
     /// Rules: The replicated log 18
     pub fn committed(&self) -> &[Call<O::Alloc>]
         ensures { result.now ≡ replica_committed self.now }
@@ -375,7 +378,7 @@ impl<O: Object> Replica<O> {
 
     /// Returns the number of committed places, including dropped ones.
     ///
-    /// It never falls.
+    /// It never falls. Does not allocate.
     ///
     /// Rules: The replicated log 12 and 18
     pub fn committed_len(&self) -> u64
@@ -386,6 +389,8 @@ impl<O: Object> Replica<O> {
 
     /// Returns the number of committed places that have been dropped, which are those before the first of `committed`.
     ///
+    /// It never falls. Does not allocate.
+    ///
     /// Rules: The replicated log 18 and 20
     pub fn trimmed(&self) -> u64
         ensures { result ≡ replica_trimmed self.now }
@@ -394,6 +399,8 @@ impl<O: Object> Replica<O> {
     }
 
     /// Returns the number of the log's places, committed or not, including dropped ones.
+    ///
+    /// Does not allocate.
     ///
     /// Rules: The replicated log 18
     pub fn log_len(&self) -> u64
@@ -404,6 +411,8 @@ impl<O: Object> Replica<O> {
 
     /// Returns the number of unanswered tickets, at most 64.
     ///
+    /// Does not allocate.
+    ///
     /// Rules: The replicated log 13 and 18
     pub fn waiting(&self) -> usize
         ensures { result ≡ length (pending_from self.now.done 0 self.now.tickets) }
@@ -413,9 +422,8 @@ impl<O: Object> Replica<O> {
 
     /// Returns the number of committed calls that took effect.
     ///
-    /// It saturates at `u64::MAX`.
-    ///
-    /// For the places of a restored snapshot, this counts the sum of its clients' last numbers.
+    /// For the places of a restored snapshot, it counts the sum of its clients' last numbers. It saturates at
+    /// `u64::MAX`. Does not allocate.
     ///
     /// Rules: Sessions 6; The replicated log 18
     pub fn order_len(&self) -> u64

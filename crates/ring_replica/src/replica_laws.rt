@@ -14,7 +14,7 @@ use ring_object::Object;
 
 /// States that a node is its core and its replica, so that what holds of a node's step also holds of its replica's.
 ///
-/// This is so for every node and every object: at the opening, after a submit, in the node's reports, and after a step
+/// This holds for every node and every object: at the opening, after a submit, in the node's reports, and after a step
 /// of its core if the replica's due payloads are then handed to the core. Two things are required of that step. It must
 /// not lower a safe mark, and the node's epochs must be sound (`HasSoundEpochs`): no base lacked committed places, and
 /// only committed places were dropped.

@@ -17,7 +17,7 @@ pub struct ReplicaOutput<A: Allocator + Copy + Drop = Global> {
     pub due: Vec<Payload<A>, A>,
     /// The answers to tickets, in the order of the calls' places, and at one place in the order of the tickets.
     pub answers: Vec<TicketAnswer<A>, A>,
-    /// The calls at the newly committed places, in order, except those that a snapshot brought.
+    /// The calls at the newly committed places, in order, including repeats, except those that a snapshot replaces.
     pub committed: Vec<Call<A>, A>,
     /// The number of places of the snapshot that the step restored, or `None` if it restored none.
     pub restored: Option<u64>,

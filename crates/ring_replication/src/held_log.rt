@@ -119,7 +119,7 @@ impl<A: Allocator + Copy + Drop> HeldLog<A> {
 
     /// Adopts a ring's base if it may be adopted, and returns whether it may.
     ///
-    /// If it may not, nothing changes. A base that restores the log brings a snapshot, which replaces the one before.
+    /// If it may not, nothing changes. A base that restores the log has a snapshot, which replaces the one before.
     ///
     /// Errors: `Memory` if an allocation fails; nothing has then changed.
     ///
@@ -152,11 +152,9 @@ impl<A: Allocator + Copy + Drop> HeldLog<A> {
         }
     }
 
-    /// Appends a call, unless the log would then have more than 2^62 places.
+    /// Appends a call, unless the log would then have more than 2^62 places, and returns whether it was appended.
     ///
-    /// Returns whether it was appended.
-    ///
-    /// If not, nothing changes.
+    /// If it wasn't, nothing changes.
     ///
     /// Errors: `Memory` if an allocation fails; nothing has then changed.
     ///
@@ -171,11 +169,10 @@ impl<A: Allocator + Copy + Drop> HeldLog<A> {
         self.log.append(call)
     }
 
-    /// Appends calls, in order, unless the log would then have more than 2^62 places.
+    /// Appends calls, in order, unless the log would then have more than 2^62 places, and returns whether they were
+    /// appended.
     ///
-    /// Returns whether they were appended.
-    ///
-    /// If not, nothing changes.
+    /// If they weren't, nothing changes.
     ///
     /// Errors: `Memory` if an allocation fails; nothing has then changed.
     ///
@@ -218,7 +215,7 @@ impl<A: Allocator + Copy + Drop> HeldLog<A> {
         Ok(dropped)
     }
 
-    /// Ends a step: drops the log from before a restore.
+    /// Ends a step: drops the log from before a restore, if there is one.
     ///
     /// Does not allocate.
     ///

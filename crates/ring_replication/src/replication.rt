@@ -90,9 +90,10 @@ impl<A: Allocator + Copy + Drop> Clone for Replication<A> {
 }
 
 impl<A: Allocator + Copy + Drop> Replication<A> {
-    /// Creates the replication of processor `me` at the opening, with an empty log and no exchange.
+    /// Creates the replication of processor `me` at the opening, in the ring (0, `me`), with an empty log.
     ///
-    /// Does not allocate.
+    /// If `me` alone is primary, the exchange of that ring is open, with nothing received; otherwise there is none.
+    /// That `me` is in the group isn't checked. Does not allocate.
     ///
     /// Rules: The replicated log 1
     pub fn new(alloc: A, fixed: Fixed, me: Proc) -> Replication<A>
@@ -114,8 +115,8 @@ impl<A: Allocator + Copy + Drop> Replication<A> {
 
     /// Returns whether the log is valid.
     ///
-    /// It is false once a base came that may not be adopted, or the log would have been too long. After `Memory` it is
-    /// unspecified.
+    /// It is false once a base was complete that may not be adopted, or the log would have been too long, and is never
+    /// true again. After `Memory` it is unspecified.
     ///
     /// Rules: The replicated log 8 and 9
     pub fn is_consistent(&self) -> bool
@@ -128,6 +129,8 @@ impl<A: Allocator + Copy + Drop> Replication<A> {
     }
 
     /// Returns the stored log, with the snapshot of its dropped places.
+    ///
+    /// Once the log is inconsistent, only the places committed before the step are specified.
     ///
     /// Rules: The replicated log 1
     pub fn stored_log(&self) -> &HeldLog<A>
@@ -142,7 +145,7 @@ impl<A: Allocator + Copy + Drop> Replication<A> {
 
     /// Returns whether no exchange is open, because that of the newest ring is complete or the ring isn't primary.
     ///
-    /// Places may be dropped only then.
+    /// Places may be dropped only then. Once the log is inconsistent, the result is unspecified.
     ///
     /// Rules: The replicated log 4 and 20
     pub fn is_exchange_closed(&self) -> bool
@@ -167,9 +170,11 @@ impl<A: Allocator + Copy + Drop> Replication<A> {
 
     /// Applies the outputs of a core's step, in order, and appends to `due` the payloads to be handed to the core.
     ///
-    /// `running` is the ring in which the core is Operational after the step, and `committed` the number of places that
-    /// were committed before it. The log must be consistent. If an output makes it inconsistent, `is_consistent` is
-    /// false afterwards, and the later outputs are ignored.
+    /// `running` is the ring in which the core is Operational after the step, or `None` in every other state. `pending`
+    /// has the node's unanswered tickets, and `committed` is the number of places that were committed before the step.
+    /// The log must be consistent, and no `Safe` may have a lower mark than the one before in its ring. Transitional
+    /// configurations, the rest of an old ring and frames change nothing. If an output makes the log inconsistent,
+    /// `is_consistent` is false afterwards, the later outputs are ignored, and the contents of `due` are unspecified.
     ///
     /// Errors: `Memory` if an allocation fails; the places committed before the step are then unchanged, and all else
     /// is unspecified.
@@ -430,7 +435,8 @@ impl<A: Allocator + Copy + Drop> Replication<A> {
     /// Drops the committed places, keeps `snapshot` for them, and returns a log of only the dropped places.
     ///
     /// Does nothing and returns `None` if `snapshot` is `None`. Otherwise no exchange may be open, and the log must be
-    /// due to be trimmed.
+    /// due to be trimmed; `snapshot` must be that of the sessions after the committed places, which isn't checked. The
+    /// log must be consistent.
     ///
     /// Errors: `Memory` if an allocation fails; nothing has then changed.
     ///
@@ -452,7 +458,7 @@ impl<A: Allocator + Copy + Drop> Replication<A> {
         Ok(Some(log))
     }
 
-    /// Ends a step, so that no snapshot is any longer one that the present step has restored.
+    /// Ends a step: drops the log from before a restore, so that `is_restored` of the stored log is false.
     ///
     /// Nothing else changes. Does not allocate.
     ///

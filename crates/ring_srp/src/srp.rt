@@ -74,6 +74,7 @@ impl<A: Allocator + Copy> Srp<A> {
     /// Creates the ring core of processor `me` in the formed ring (1, 1) of all processors.
     ///
     /// It is Operational, holds nothing and hasn't visited a token yet. `me` must be at most the number of processors.
+    /// For processor 1, call [`representative_started`](Srp::representative_started) instead, which starts the token.
     ///
     /// Errors: `Memory` if an allocation fails.
     ///
@@ -181,7 +182,8 @@ impl<A: Allocator + Copy> Srp<A> {
 
     /// Runs one step on a timeout of this kind.
     ///
-    /// Appends the frames to be sent to `sends`, which must be empty, and returns the other outputs.
+    /// Appends the frames to be sent to `sends`, which must be empty, and returns the other outputs. A caller can reuse
+    /// `sends`, with its capacity, from step to step. If a proposal is due, any timeout makes it.
     ///
     /// Errors: `Stopped` if the core had already stopped; it is unchanged. `Memory` if an allocation fails: the core
     /// has then stopped for good, the step's outputs are dropped, and the contents of `sends` are unspecified, so clear
@@ -221,8 +223,8 @@ impl<A: Allocator + Copy> Srp<A> {
     /// In every other state the payload is dropped. An End, a Wrapped or a Pack is dropped in every state. The step has
     /// no outputs.
     ///
-    /// Errors: `Stopped` if the core had already stopped. `Memory` if an allocation fails; the core is unchanged and
-    /// hasn't stopped.
+    /// Errors: `Stopped` if the core had already stopped. `Memory` if an allocation fails. The core is unchanged by
+    /// each: unlike a step, a send that returns `Memory` doesn't stop it.
     ///
     /// Rules: Rings and states 9 and 12; Refusals 4 and 5
     pub fn send(&mut self, payload: Payload<A>) -> Result<(), Fault>
@@ -241,6 +243,7 @@ impl<A: Allocator + Copy> Srp<A> {
     /// Stops the core for good and frees the memory that it holds.
     ///
     /// Does nothing if it has already stopped. [`installed`](Srp::installed) and [`ring`](Srp::ring) keep their values.
+    /// Does not allocate.
     ///
     /// Rules: Rings and states 12
     pub fn stop(&mut self)

@@ -35,6 +35,8 @@ impl<A: Allocator + Copy> Model for CoreHistory<A> {
 
 /// Returns the lists of facts of processor `me` at the opening.
 ///
+/// That `me` is in the group isn't checked.
+///
 /// Rules: Rings and states 5
 pub fn opening_history<A: Allocator + Copy>(fixed: Fixed, me: Proc) -> Ghost<CoreHistory<A>>
     ensures { result.value ≡ history_of (opening fixed.count me) }
@@ -44,6 +46,8 @@ pub fn opening_history<A: Allocator + Copy>(fixed: Fixed, me: Proc) -> Ghost<Cor
 
 /// Returns the lists of facts of processor `me` in the formed ring of all processors.
 ///
+/// That `me` is in the group isn't checked.
+///
 /// Rules: Rings and states 14
 pub fn formed_history<A: Allocator + Copy>(fixed: Fixed, me: Proc) -> Ghost<CoreHistory<A>>
     ensures { result.value ≡ history_of (formed fixed.count me) }
@@ -51,7 +55,10 @@ pub fn formed_history<A: Allocator + Copy>(fixed: Fixed, me: Proc) -> Ghost<Core
     ghost_of(&(&fixed, &me))
 }
 
-/// Returns the lists after the core takes part in the ring `running` and reports `own` about its old ring.
+/// Returns the lists after the core takes part in the ring `running`, with `own` as its entry in the commit token.
+///
+/// `running` is now the newest ring taken part in, and `own`, which reports on the old ring, the newest report, under
+/// the name of `running`. The other lists are unchanged.
 ///
 /// Rules: Rings and states 7
 pub fn history_with_ring<A: Allocator + Copy>(
@@ -64,7 +71,9 @@ pub fn history_with_ring<A: Allocator + Copy>(
     ghost_step(history, &(running, own))
 }
 
-/// Returns the lists after one more visit of the token: the newest one in `visit`.
+/// Returns the lists after one more visit of the token: the newest visit in `visit` is now the newest in the lists.
+///
+/// If `visit` has no visits, nothing is added. The other lists are unchanged.
 ///
 /// Rules: Token and window 7
 pub fn history_with_core_visit<A: Allocator + Copy>(
@@ -76,10 +85,10 @@ pub fn history_with_core_visit<A: Allocator + Copy>(
     ghost_step(history, visit)
 }
 
-/// Returns the lists after the core makes its plan: with the full commit token, and the mark of the old ring that it
-/// raises.
+/// Returns the lists after the core makes its plan from the full commit token `token`.
 ///
-/// `mark` is the safe mark to which the plan raises the ring `old`.
+/// `token` is now the newest plan. `mark`, the safe mark to which the plan raises the ring `old`, is now the newest
+/// raised mark. The other lists are unchanged.
 ///
 /// Rules: Recovery 3
 pub fn history_with_plan<A: Allocator + Copy>(
@@ -93,7 +102,9 @@ pub fn history_with_plan<A: Allocator + Copy>(
     ghost_step(history, &(token, old, mark))
 }
 
-/// Returns the lists after the core installs the ring `running`.
+/// Returns the lists after the core installs the ring `running`: it is now the newest installed ring.
+///
+/// The other lists are unchanged.
 ///
 /// Rules: Recovery 7
 pub fn history_with_install<A: Allocator + Copy>(

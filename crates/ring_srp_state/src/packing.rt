@@ -17,12 +17,12 @@ use std::collections::VecDeque;
 /// The maximum number of calls in one Pack, 16.
 const MAX_CALLS: usize = MAX_PACK_CALLS as usize;
 
-/// Takes the payloads of at most `max_messages` new messages from the front of the queue, and returns them in their
-/// order.
+/// Takes the payloads of at most `max_messages` new messages from the front of the queue, and returns them in order.
 ///
 /// Each is made from what the ones before it have left. Calls at the front become a Pack: the longest run of them that
 /// fits one, with at most 16 calls and 7,276 bytes of payload. A single Call stays a Call. Any other payload becomes a
-/// message of its own.
+/// message of its own. The rest of the queue keeps its order. An empty queue, or a `max_messages` of 0, gives an empty
+/// list and leaves the queue unchanged.
 ///
 /// Errors: `Memory` if an allocation fails. Some of the queue's first payloads may then be lost; the rest is unchanged.
 ///

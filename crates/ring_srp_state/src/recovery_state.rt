@@ -44,7 +44,7 @@ impl<A: Allocator + Copy> RecoveryState<A> {
     /// Defers the running ring's user messages up to its front, so that the window may drop them.
     ///
     /// `most` must be at least the window's safe mark, and `deferred` must have the user messages numbered 1 to `most`.
-    /// Both hold afterwards too.
+    /// Both hold afterwards too, and `most` is then at least the front. If it already was, nothing changes.
     ///
     /// Errors: `Memory` if an allocation fails; the messages before the failing one have then been deferred.
     ///
@@ -69,7 +69,7 @@ impl<A: Allocator + Copy> RecoveryState<A> {
     ///
     /// The plan records it, the window takes it if its number is new there, and the messages that the front newly
     /// covers are counted. The window's safe mark must be at most the number of messages counted so far, which must be
-    /// those from number 1 on.
+    /// those from number 1 on. Whether the message belongs to the running ring isn't checked.
     ///
     /// Rules: Recovery 5, 7 and 11
     pub fn take(&mut self, message: Message<A>)
@@ -126,10 +126,10 @@ fn push_copy_if_user<A: Allocator + Copy>(
     Ok(())
 }
 
-/// Adds the inner message of a Wrapped to the old ring's window, if it belongs to that ring and its number is new
+/// Adds a copy of the inner message of a Wrapped to `window`, if it belongs to the window's ring and its number is new
 /// there.
 ///
-/// Any other payload changes nothing.
+/// `window` is that of the old ring. Any other payload changes nothing.
 ///
 /// Errors: `Memory` if an allocation fails; the window is unchanged.
 ///

@@ -62,7 +62,7 @@ fn push_agreed_if_user<A: Allocator + Copy>(
     Ok(())
 }
 
-/// Appends a `Safe` with the mark of a ring if the mark has risen above `before`, otherwise nothing.
+/// Appends a `Safe` with the ring and its safe mark `mark` if `mark` is above `before`, otherwise nothing.
 ///
 /// `before` must be the ring's safe mark at the start of the step.
 ///
@@ -100,7 +100,8 @@ fn push_safe<A: Allocator + Copy>(
 
 /// Appends a `Rest` for each user message of these numbers that the window still has, in ascending order.
 ///
-/// A number is skipped if the window doesn't hold it or has dropped its message, or if it has an End or a Wrapped.
+/// A number is skipped if the window doesn't hold it or has dropped its message, or if its message is an End or a
+/// Wrapped.
 ///
 /// Errors: `Memory` if an allocation fails; the contents of `outs` are then unspecified.
 ///
@@ -150,7 +151,8 @@ fn push_rest_if_user<A: Allocator + Copy>(
 
 /// Appends an `Agreed` of `ring` for each of the messages, in their order.
 ///
-/// The core passes the user messages of the ring that Recovery deferred until its installation.
+/// The messages are to be the user messages of `ring` that Recovery deferred until its installation; this isn't
+/// checked. If there are none, nothing is appended.
 ///
 /// Errors: `Memory` if an allocation fails; the contents of `outs` are then unspecified.
 ///

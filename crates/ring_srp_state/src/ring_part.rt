@@ -54,15 +54,16 @@ impl<A: Allocator + Copy> WindowAndVisits<A> {
         Ok(WindowAndVisits { window, visit })
     }
 
-    /// Visits the token, writes the token to forward into `last_sent`, and drops the messages that have become safe.
+    /// Visits the token, replaces `last_sent` by the token to forward, and drops the messages that have become safe.
     ///
     /// `token` must belong to this ring, and its number must be below `MAX`. `count` is the number of new messages; the
     /// token's `seq` plus `count` must be at most `MAX`. The window must hold the new messages already, and the front
     /// must be at least the safe mark and the `aru` forwarded last. `fresh` has the payloads of the new messages, for
     /// contracts.
     ///
-    /// The forwarded token goes to `to`. It requests the 32 smallest of `remaining_requests`, which must be strictly
-    /// ascending, and of the missing numbers. If `last_sent` is a token, it is overwritten in place. Does not allocate.
+    /// The forwarded token is addressed to `to`. It requests the 32 smallest of `remaining_requests`, which must be
+    /// strictly ascending, and of the numbers up to `seq` plus `count` that the window lacks. If `last_sent` is a
+    /// token, it is overwritten in place. Does not allocate.
     ///
     /// Rules: Token and window 7, 8 and 10
     pub fn forward_token(

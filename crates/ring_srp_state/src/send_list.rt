@@ -14,7 +14,9 @@ use ring_core_spec::OutgoingFrame;
 use ring_wire::{Frame, Message, Requests, Token};
 use std::alloc::Allocator;
 
-/// Appends a frame for the receivers `to` to the list of sends, unless `to` is empty.
+/// Appends `frame`, addressed to `to`, to `sends`.
+///
+/// If `to` is empty, nothing is appended, and the frame is dropped.
 ///
 /// Errors: `Memory` if an allocation fails; the contents of `sends` are then unspecified.
 ///
@@ -34,7 +36,7 @@ pub fn push_frame<A: Allocator + Copy>(
     Ok(())
 }
 
-/// Appends a copy of a frame for the receivers `to` to the list of sends, unless `to` is empty.
+/// Appends a copy of `frame`, addressed to `to`, to `sends`, unless `to` is empty.
 ///
 /// It is meant for the kept token or commit token, of which the core needs the original.
 ///
@@ -143,7 +145,7 @@ pub(crate) fn copied_token(token: &Token) -> Token
     }
 }
 
-/// Appends a copy of a message for the receivers `to` to the list of sends, unless `to` is empty.
+/// Appends a frame with a copy of `message`, addressed to `to`, to `sends`, unless `to` is empty.
 ///
 /// Errors: `Memory` if an allocation fails; the contents of `sends` are then unspecified.
 ///

@@ -17,8 +17,9 @@ use std::alloc::Allocator;
 
 /// Returns the payloads that a visit in Recovery sends, at most `most`.
 ///
-/// They are a Wrapped for each user message left to wrap, in ascending order, and then an End, unless an End of this
-/// node was seen.
+/// They are a Wrapped for each user message above the least reported front that the window holds and that hasn't been
+/// seen wrapped, in ascending order, and then an End, unless an End of this node was seen. The list is empty if `most`
+/// is 0 or nothing is left. The plan and the window are unchanged.
 ///
 /// `window` must be the window of the old ring. Its safe mark must be at most the greatest reported one, and it must
 /// hold no number more than 256 above that.

@@ -304,7 +304,8 @@ fn transition_into_gather<A: Allocator + Copy>(join_effect: JoinEffect, join: Jo
 
 /// Returns the token that starts a ring: number, `seq` and `aru` 0, no `aru_id` and no requests.
 ///
-/// The representative visits it when the commit token has returned after two rounds. It is never sent as a frame.
+/// The representative visits it when the commit token has returned after two rounds. It is never sent as a frame. Does
+/// not allocate.
 ///
 /// Rules: The commit token 7
 pub fn first_token(ring: RingId) -> Token

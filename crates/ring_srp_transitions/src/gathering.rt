@@ -44,8 +44,9 @@ impl<A: Allocator + Copy> RunningCore<A> {
 
     /// Enters Gather, from any state.
     ///
-    /// Sets and agreement start again; the queue, the kept token and the state of Recovery are dropped. Sends nothing:
-    /// [`send_own_join`](RunningCore::send_own_join) sends the join.
+    /// The sets start with the members of the last installed ring, or with all processors if none was installed. No
+    /// processor is given up, and only the node itself agrees. The queue, the kept token and the state of Recovery are
+    /// dropped. Sends nothing: [`send_own_join`](RunningCore::send_own_join) sends the join.
     ///
     /// Rules: Gather 1
     pub fn enter_gather(&mut self)
@@ -61,7 +62,7 @@ impl<A: Allocator + Copy> RunningCore<A> {
 
     /// Gives up each candidate that doesn't agree, by adding it to `fail_set`.
     ///
-    /// Then agreement falls back to the node itself. Sends nothing:
+    /// Then agreement falls back to the node itself. The state, which should be Gather, isn't checked. Sends nothing:
     /// [`send_own_join`](RunningCore::send_own_join) sends the join.
     ///
     /// Rules: Gather 6
@@ -73,7 +74,7 @@ impl<A: Allocator + Copy> RunningCore<A> {
 
     /// Records that the sender of the join agrees, and counts the join's number.
     ///
-    /// The join must have exactly the node's own sets. Sends nothing.
+    /// The join must have exactly the node's own sets. The state, which should be Gather, isn't checked. Sends nothing.
     ///
     /// Rules: Gather 3, 4 and 8
     pub fn agree(&mut self, join: &Join)
@@ -86,7 +87,8 @@ impl<A: Allocator + Copy> RunningCore<A> {
     /// Widens the node's sets by those of a join.
     ///
     /// Agreement falls back to the node itself; the join's sender agrees at once if its sets equal the widened ones.
-    /// Sends nothing: [`send_own_join`](RunningCore::send_own_join) sends the join.
+    /// The state, which should be Gather, isn't checked. Sends nothing: [`send_own_join`](RunningCore::send_own_join)
+    /// sends the join.
     ///
     /// Rules: Gather 5
     pub fn merge_join(&mut self, join: &Join)
@@ -95,7 +97,7 @@ impl<A: Allocator + Copy> RunningCore<A> {
         self.gather.merge_join(join);
     }
 
-    /// Appends the node's own join, for all other processors 1 to N, to `sends`.
+    /// Appends the node's own join to `sends`, addressed to all other processors of the group (1 to N).
     ///
     /// The join has the node's floor and its present sets. In a group of one nothing is appended. The state must be
     /// Gather.
@@ -115,11 +117,10 @@ impl<A: Allocator + Copy> RunningCore<A> {
         push_frame(sends, others, Frame::Join(self.gather.my_join()))
     }
 
-    /// Appends a join for the processors outside the running ring to `sends`, as an Operational node does at a join
-    /// timeout.
+    /// Appends a join to `sends`, addressed to the processors outside the running ring.
     ///
-    /// The join has the node's floor, the ring's members as `proc_set`, and an empty `fail_set`. If no processor is
-    /// outside the ring, nothing is appended.
+    /// An Operational node does so at a join timeout; the state isn't checked. The join has the node's floor, the
+    /// ring's members as `proc_set`, and an empty `fail_set`. If no processor is outside the ring, nothing is appended.
     ///
     /// Errors: `Memory` if an allocation fails; the contents of `sends` are then unspecified.
     ///
@@ -142,8 +143,9 @@ impl<A: Allocator + Copy> RunningCore<A> {
         )
     }
 
-    /// Appends the kept token, unchanged and for the same receiver, to `sends`. Without a kept token nothing is
-    /// appended.
+    /// Appends a copy of the kept token to `sends`, addressed to the same receiver as before.
+    ///
+    /// If there is no kept token, nothing is appended.
     ///
     /// Errors: `Memory` if an allocation fails; the contents of `sends` are then unspecified.
     ///

@@ -16,10 +16,12 @@ use ring_wire::Message;
 use std::alloc::Allocator;
 
 impl<A: Allocator + Copy> RunningCore<A> {
-    /// Applies `Take`: the core holds the message. In Recovery its inner message, if any, is offered to the old ring's
-    /// window.
+    /// Applies `Take`: the core holds the message.
     ///
-    /// [`decide`](RunningCore::decide) must have chosen `Take` with this message for this core.
+    /// In Recovery, if the message is a Wrapped, the old ring's window also takes its inner message, if that belongs to
+    /// the old ring and its number is new there. [`decide`](RunningCore::decide) must have chosen `Take` with this
+    /// message for this core. Appends no outputs: [`give_ring_outputs`](RunningCore::give_ring_outputs) and
+    /// [`install_if_due`](RunningCore::install_if_due) do.
     ///
     /// Errors: `Memory` if an allocation fails; the core's state is then unspecified.
     ///

@@ -55,8 +55,8 @@ impl<A: Allocator + Copy> RunningCore<A> {
 
     /// Appends what a step has added to the installed ring since `before`.
     ///
-    /// That is an `Agreed` for each user message that the front newly covers, and a `Safe` if the mark has risen.
-    /// `before` must be the progress in the last installed ring, and the present safe mark must be at most
+    /// That is an `Agreed` for each user message that the front newly covers, and a `Safe` if the mark has risen; there
+    /// may be none. `before` must be the progress in the last installed ring, and the present safe mark must be at most
     /// `before.front`, so that the window still has these messages.
     ///
     /// Errors: `Memory` if an allocation fails; the contents of `outs` are then unspecified.

@@ -29,7 +29,9 @@ impl<A: Allocator + Copy> RunningCore<A> {
     /// Installs the running ring if the core is in Recovery and may end it, and appends the outputs of the
     /// installation.
     ///
-    /// The core may end Recovery once the three conditions of Recovery, rule 7, hold. Otherwise nothing changes.
+    /// The core may end Recovery once the three conditions of Recovery, rule 7, hold. The outputs are the transitional
+    /// configuration, the rest of the old ring, the regular configuration, and what is agreed and safe in the new ring.
+    /// Otherwise nothing changes, and nothing is appended.
     ///
     /// Errors: `Memory` if an allocation fails; the core's state and the contents of `outs` are then unspecified.
     ///

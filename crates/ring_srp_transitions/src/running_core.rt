@@ -94,7 +94,8 @@ impl<A: Allocator + Copy> RunningCore<A> {
 
     /// Creates the core of processor `me` in the formed ring (1, 1) of all processors.
     ///
-    /// It is Operational, holds nothing and hasn't visited a token yet. `me` must be at most the number of processors.
+    /// It is Operational, holds nothing and hasn't visited a token yet. The ring has no token until processor 1 visits
+    /// the first one. `me` must be at most the number of processors.
     ///
     /// Errors: `Memory` if an allocation fails.
     ///

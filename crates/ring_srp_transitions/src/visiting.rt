@@ -30,9 +30,9 @@ use std::alloc::Allocator;
 impl<A: Allocator + Copy> RunningCore<A> {
     /// Applies `Visit`: performs the visit of an accepted token.
     ///
-    /// The core sends the requested messages that it holds again, sends new messages and holds them, and forwards the
-    /// token. The frames are appended to `sends` in this order. [`decide`](RunningCore::decide) must have chosen
-    /// `Visit` with this token for this core.
+    /// The core again sends the requested messages that it still has, sends up to 8 new messages and holds them, and
+    /// forwards the token. The frames are appended to `sends` in this order. [`decide`](RunningCore::decide) must have
+    /// chosen `Visit` with this token for this core.
     ///
     /// Errors: `Memory` if an allocation fails; the core's state and the contents of `sends` are then unspecified.
     ///
