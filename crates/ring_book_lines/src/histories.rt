@@ -5,7 +5,7 @@
 ghost use Rattle.std.specs.Prelude.{◌≡◌, ◌++◌, OnOk, IfOk, IfErr};
 ghost use Rattle.ring_base.specs.declared.fault.Fault.TheVariants.{Memory};
 ghost use Rattle.ring_node_spec.specs.Worlds.{reply_items_of, reply_items};
-ghost use Rattle.ring_session.specs.SessionAnswer.{decode_reply};
+ghost use Rattle.ring_session.specs.SessionAnswer.{reply_of_answer};
 ghost use Rattle.ring_book_lines.specs.Events.{history_of, items_in};
 
 use crate::cause::Cause;
@@ -74,7 +74,7 @@ fn add_reply<A: Allocator + Copy + Drop>(
     answered: &TicketAnswer<A>,
     items: &mut Vec<Item<A>, A>,
 ) -> Result<(), Fault>
-    ensures ok { OnOk result (items.new.items ≡ items.old.items ++ reply_items answered.now.call (decode_reply answered.now.answer)) }
+    ensures ok { OnOk result (items.new.items ≡ items.old.items ++ reply_items answered.now.call (reply_of_answer answered.now.answer)) }
     ensures refused { IfErr result (λ fault. fault ≡ Memory) }
 {
     match answered.answer {

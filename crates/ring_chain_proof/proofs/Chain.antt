@@ -23,7 +23,7 @@ use Rattle.ring_core_proof.specs.Moves.{Move, Idles, Enters, Learns, Visits, Tak
 use Rattle.ring_core_proof.proofs.Rises.{runs_in}
 use Rattle.ring_core_proof.proofs.VisitsByRules.{Turned, moved_turned}
 use Rattle.ring_chain_proof.specs.ChainWords.{Chains, IsRingOf, visits_taken_by, IsRound}
-use Rattle.ring_chain_proof.proofs.GenuineFrames.{HasArrived, IsToken, AreRight, history_with_core_visit, visits_after}
+use Rattle.ring_chain_proof.proofs.GenuineFrames.{HasArrived, IsToken, AreRight, visits_with, visits_after}
 use Rattle.ring_chain_proof.specs.ChainFacts.{AreChains}
 use Rattle.ring_chain_proof.proofs.FactsGrow.{AllGrown, put-each, put_grows, moved_grows}
 use Rattle.ring_chain_proof.proofs.Rings.{AreRings, came_right, one_members}
@@ -121,7 +121,7 @@ module _ {A : Type 0} (visits : Chains A) (cores : ℕ → Core A) (frames : Lis
               (length fresh) visit.turn.forwarded.requests t) (are.me i) (new.0).goes;
         }
 
-    pub visit_moved : AreChains (history_with_core_visit visits t.ring visit) (with_core cores i (core_after_move (cores i) (Visits t fresh requests again queue)))
+    pub visit_moved : AreChains (visits_with visits t.ring visit) (with_core cores i (core_after_move (cores i) (Visits t fresh requests again queue)))
     visit_moved =
         let d = core_after_move (cores i) (Visits t fresh requests again queue) in
         let cores' = with_core cores i d in
@@ -136,13 +136,13 @@ module _ {A : Type 0} (visits : Chains A) (cores : ℕ → Core A) (frames : Lis
           rounds = λ r. cond_both (same_ring t.ring r) (visit ∷ visits r) (visits r) (λ (vs : List (VisitBy A)). (vs ≡ []) ⊎ IsRound cores' r vs)
               (λ e. inr (subst (λ r. IsRound cores' r (visit ∷ visits r)) (ring_same t.ring r e) here))
               (λ e. round_grows cores cores' g r (visits r) (chains.rounds r));
-          turns = put-each (λ q (x : Core A). (r : RingId) → visits_in_ring r x.turns ≡ visits_taken_by q (history_with_core_visit visits t.ring visit r)) cores i d
+          turns = put-each (λ q (x : Core A). (r : RingId) → visits_in_ring r x.turns ≡ visits_taken_by q (visits_with visits t.ring visit r)) cores i d
               (λ q n r. other_picked (same_ring t.ring r) i q visit.turn (visits_in_ring r (cores q).turns) (visits r) n (chains.turns q r))
               (λ r. turn_picked (same_ring t.ring r) i visit.turn (visits_in_ring r (cores i).turns) (visits r) (chains.turns i r));
         }
 
     -- the forwarded token is the ring's, and goes to the member whose turn is next
-    pub went_right : IsToken (history_with_core_visit visits t.ring visit)
+    pub went_right : IsToken (visits_with visits t.ring visit)
         (with_core cores i (core_after_move (cores i) (Visits t fresh requests again queue)))
         (to_next (cores i) visit.turn.forwarded).to visit.turn.forwarded
     went_right =

@@ -57,11 +57,11 @@ AreRight visits cores frames = AllByRecursion (λ (f : Transmission _). IsRight 
 -- Moves
 
 -- the visits after a move of a processor
-abbrev pub history_with_core_visit : {A : Type 0} → Chains A → RingId → VisitBy A → Chains A
-history_with_core_visit visits ring v r = if same_ring ring r then v ∷ visits r else visits r
+abbrev pub visits_with : {A : Type 0} → Chains A → RingId → VisitBy A → Chains A
+visits_with visits ring v r = if same_ring ring r then v ∷ visits r else visits r
 
 abbrev pub visits_after : {A : Type 0} → Chains A → ℕ → Core A → Move A → Chains A
-visits_after visits i c (Visits t fresh requests again queue) = history_with_core_visit visits t.ring (record { who = i; turn = turn_with c t fresh requests })
+visits_after visits i c (Visits t fresh requests again queue) = visits_with visits t.ring (record { who = i; turn = turn_with c t fresh requests })
 visits_after visits i c (Idles state gathering last_sent queue sends) = visits
 visits_after visits i c (Enters k) = visits
 visits_after visits i c (Learns k) = visits

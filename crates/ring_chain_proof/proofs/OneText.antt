@@ -32,7 +32,7 @@ use Rattle.ring_core_proof.specs.Moves.{IsWrapping, MayEnd, MayVisit, MayMove, I
 use Rattle.ring_core_proof.proofs.InLists.{in-each, each-in, some-each}
 use Rattle.ring_core_proof.proofs.WrapsAndEnd.{found_in}
 use Rattle.ring_chain_proof.specs.ChainWords.{Chains, IsGenuine, WrapsGenuine}
-use Rattle.ring_chain_proof.proofs.GenuineFrames.{AreRight, history_with_core_visit, visits_after}
+use Rattle.ring_chain_proof.proofs.GenuineFrames.{AreRight, visits_with, visits_after}
 use Rattle.ring_chain_proof.proofs.FactsGrow.{ChainsGrow, visits_grow, put-each}
 use Rattle.ring_chain_proof.proofs.Rings.{AreRings, came_right}
 use Rattle.ring_chain_proof.specs.ChainFacts.{AreChains}
@@ -173,7 +173,7 @@ module _ {A : Type 0} (visits : Chains A) (cores : ℕ → Core A) (frames : Lis
     new_visit = record { who = i; turn = turn_with (cores i) t fresh requests }
 
     abbrev after : Chains A
-    after = history_with_core_visit visits t.ring new_visit
+    after = visits_with visits t.ring new_visit
 
     new_in : (x : Message A) (r : RingId) → r ≡ t.ring → IsIn x (numbered t.ring i t.seq fresh) → NumberedIn r x (after r)
     new_in x r e h =

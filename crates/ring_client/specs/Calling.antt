@@ -5,7 +5,7 @@ use Rattle.ring_payload.specs.Limits.{max_operation}
 use Rattle.ring_payload.specs.Operations.{OpFits}
 use Rattle.ring_base.specs.declared.fault.Fault.{Fault}
 use Rattle.ring_base.specs.declared.fault.Fault.TheVariants.{OpTooLong, Conflict, Stale, NumberGap, SessionsFull, Memory, NoAnswer}
-use Rattle.ring_session.specs.SessionAnswer.{refusal, decode_reply}
+use Rattle.ring_session.specs.SessionAnswer.{refusal, reply_of_answer}
 use Rattle.ring_session.specs.declared.answer.Answer.{Answer}
 use Rattle.ring_client.specs.declared.last_request.Asked.{Asked}
 use Rattle.ring_client.specs.Asking.{just_submitted}
@@ -33,7 +33,7 @@ module _ {P : Type 0} (asked : P → Asked) (old new : ClientOf P) (op : List �
 
   -- a port gave this reply: the call is closed, and the number rises
   abbrev pub IsReplied : List ℕ → Type 0
-  IsReplied reply = (answer : Answer) × (decode_reply answer ≡ Some reply) × HasAnswer asked next_call old.turns old.ports new.ports answer
+  IsReplied reply = (answer : Answer) × (reply_of_answer answer ≡ Some reply) × HasAnswer asked next_call old.turns old.ports new.ports answer
       × (new ≡ record (old) { next = old.next + 1; open_call = None; ports = new.ports })
 
   -- a port answered with this refusal: the call is closed, and the number stays

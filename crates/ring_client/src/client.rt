@@ -80,8 +80,8 @@ impl<P: Port> Client<P> {
     /// Rules: Clients 3 to 5 and 7
     pub fn call(&mut self, op: &[u8]) -> Result<Reply, Fault>
         ensures ready { IfOk result (λ _. IsReady self.old × OpFits op.now) }
-        ensures replied { IfOk result (IsReplied P.trace_options_of self.old self.new op.now) }
-        ensures refused { IfErr result (CallRefused P.trace_options_of self.old self.new op.now) }
+        ensures replied { IfOk result (IsReplied P.asked_of self.old self.new op.now) }
+        ensures refused { IfErr result (CallRefused P.asked_of self.old self.new op.now) }
     {
         if self.open_call.is_some() || self.last_replied_number == u64::MAX {
             return Err(Fault::NoAnswer);
@@ -103,8 +103,8 @@ impl<P: Port> Client<P> {
     ///
     /// Rules: Clients 5 and 6
     pub fn again(&mut self) -> Result<Reply, Fault>
-        ensures replied { IfOk result (λ reply. (op : List ℕ) × (self.old.open_call ≡ Some op) × IsReplied P.trace_options_of self.old self.new op reply) }
-        ensures refused { IfErr result (AgainRefused P.trace_options_of self.old self.new) }
+        ensures replied { IfOk result (λ reply. (op : List ℕ) × (self.old.open_call ≡ Some op) × IsReplied P.asked_of self.old self.new op reply) }
+        ensures refused { IfErr result (AgainRefused P.asked_of self.old self.new) }
     {
         let Some(op) = self.open_call else {
             return Err(Fault::NoAnswer);
@@ -123,8 +123,8 @@ impl<P: Port> Client<P> {
     /// Rules: Clients 6
     pub fn until_answered(&mut self, op: &[u8], limit: u64) -> Result<Reply, Fault>
         ensures ready { IfOk result (λ _. IsReady self.old × OpFits op.now) }
-        ensures replied { IfOk result (IsRepliedWithin P.trace_options_of limit self.old self.new op.now) }
-        ensures refused { IfErr result (UntilAnsweredRefused P.trace_options_of limit self.old self.new op.now) }
+        ensures replied { IfOk result (IsRepliedWithin P.asked_of limit self.old self.new op.now) }
+        ensures refused { IfErr result (UntilAnsweredRefused P.asked_of limit self.old self.new op.now) }
     {
         if self.is_open() || self.last_replied_number == u64::MAX {
             return Err(Fault::NoAnswer);
@@ -180,8 +180,8 @@ impl<P: Port> Client<P> {
     /// Tries the call at the ports, and again up to `limit` times while no port answers.
     fn retry_ports(&mut self, op: Op, limit: u64) -> Result<Reply, Fault>
         requires { self.old.next < 2 ^ 64 }
-        ensures replied { IfOk result (IsRepliedWithin P.trace_options_of limit self.old self.new op) }
-        ensures refused { IfErr result (AskingRefusedWithin P.trace_options_of limit self.old self.new op) }
+        ensures replied { IfOk result (IsRepliedWithin P.asked_of limit self.old self.new op) }
+        ensures refused { IfErr result (AskingRefusedWithin P.asked_of limit self.old self.new op) }
     {
         for _ in 0..limit {
             match self.try_ports(op) {
@@ -195,8 +195,8 @@ impl<P: Port> Client<P> {
     /// Tries the call with the next number and this operation at the ports.
     fn try_ports(&mut self, op: Op) -> Result<Reply, Fault>
         requires { self.old.next < 2 ^ 64 }
-        ensures replied { IfOk result (IsReplied P.trace_options_of self.old self.new op) }
-        ensures refused { IfErr result (AskingRefused P.trace_options_of self.old self.new op) }
+        ensures replied { IfOk result (IsReplied P.asked_of self.old self.new op) }
+        ensures refused { IfErr result (AskingRefused P.asked_of self.old self.new op) }
     {
         let request = PortRequest {
             client: self.client,

@@ -27,7 +27,7 @@ pub trait Port: Drop {
     type Ticket: Drop;
 
     /// The last request at the port.
-    ghost trace_options_of: { Self → Asked };
+    ghost asked_of: { Self → Asked };
 
     /// Submits a call and returns the ticket to poll.
     ///
@@ -39,8 +39,8 @@ pub trait Port: Drop {
     ///
     /// Rules: Clients 2 and 4
     fn submit(&mut self, call: &Call<Self::Alloc>) -> Result<Self::Ticket, Fault>
-        ensures ok { OnOk result (trace_options_of self.new ≡ asked_after_submit call.now) }
-        ensures refused { IfErr result (λ fault. trace_options_of self.new ≡ asked_after_refusal fault (asked_after_submit call.now)) };
+        ensures ok { OnOk result (asked_of self.new ≡ asked_after_submit call.now) }
+        ensures refused { IfErr result (λ fault. asked_of self.new ≡ asked_after_refusal fault (asked_after_submit call.now)) };
 
     /// Returns the answer to the ticket's call, or `None` if it hasn't arrived.
     ///
@@ -48,7 +48,7 @@ pub trait Port: Drop {
     ///
     /// Rules: Clients 2
     fn poll(&mut self, ticket: &Self::Ticket) -> Option<Answer>
-        ensures asked { trace_options_of self.new ≡ asked_after_poll result (trace_options_of self.old) }
+        ensures asked { asked_of self.new ≡ asked_after_poll result (asked_of self.old) }
         ensures told { IfSome result IsClientVisible };
 
     /// Returns the last request: the last submit's call, its refusal, the number of polls since, and the last poll's
@@ -56,7 +56,7 @@ pub trait Port: Drop {
     ///
     /// Rules: Clients 2
     fn asked(&self) -> &Asked
-        ensures { result.now ≡ trace_options_of self.now };
+        ensures { result.now ≡ asked_of self.now };
 }
 
 /// Returns the answer if a client may see it, otherwise `None`.

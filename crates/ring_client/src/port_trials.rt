@@ -5,7 +5,7 @@
 ghost use Rattle.std.specs.Prelude.{◌≡◌, ◌≤◌, Some, IfOk, IfErr, IfSome, IfNone};
 ghost use Rattle.ring_base.specs.Fault.{fault_number};
 ghost use Rattle.ring_base.specs.declared.fault.Fault.TheVariants.{Memory};
-ghost use Rattle.ring_session.specs.SessionAnswer.{refusal, decode_reply};
+ghost use Rattle.ring_session.specs.SessionAnswer.{refusal, reply_of_answer};
 ghost use Rattle.ring_client.specs.Asking.{just_submitted, asked_after_submit, IsClientVisible, HasNoAnswer, HasAnswered};
 ghost use Rattle.ring_client.specs.Outcomes.{IsOutcome};
 
@@ -79,7 +79,7 @@ pub fn submit_in_order<P: Port>(
     request: &PortRequest,
     turns: u64,
 ) -> CallOutcome
-    ensures { IsOutcome P.trace_options_of (just_submitted request.now.client request.now.number request.now.op) turns ports.old ports.new result }
+    ensures { IsOutcome P.asked_of (just_submitted request.now.client request.now.number request.now.op) turns ports.old ports.new result }
 {
     for i in 0..ports.len() {
         let Ok(call) = request.copy_for_port(alloc) else {
@@ -98,9 +98,9 @@ pub fn submit_in_order<P: Port>(
 
 /// Submits a call at a port, and returns the answer if it arrives within `turns` polls.
 fn submit_and_poll<P: Port>(port: &mut P, call: &Call<P::Alloc>, turns: u64) -> Option<Answer>
-    ensures answered { IfSome result (λ answer. HasAnswered (asked_after_submit call.now) turns answer (P.trace_options_of port.new)) }
+    ensures answered { IfSome result (λ answer. HasAnswered (asked_after_submit call.now) turns answer (P.asked_of port.new)) }
     ensures told { IfSome result IsClientVisible }
-    ensures in_vain { IfNone result (HasNoAnswer (asked_after_submit call.now) turns (P.trace_options_of port.new)) }
+    ensures in_vain { IfNone result (HasNoAnswer (asked_after_submit call.now) turns (P.asked_of port.new)) }
 {
     let Ok(ticket) = port.submit(call) else {
         return None;
@@ -124,7 +124,7 @@ fn submit_and_poll<P: Port>(port: &mut P, call: &Call<P::Alloc>, turns: u64) -> 
 /// Rules: Clients 5; Sessions 3 and 4
 pub fn reply_or_refusal(answer: Answer) -> Result<Reply, Fault>
     requires { IsClientVisible answer }
-    ensures ok { IfOk result (λ reply. decode_reply answer ≡ Some reply) }
+    ensures ok { IfOk result (λ reply. reply_of_answer answer ≡ Some reply) }
     ensures refused { IfErr result (λ fault. answer ≡ refusal fault) }
 {
     match answer {

@@ -94,7 +94,7 @@ impl<A: Allocator + Copy + Drop> Port for Scripted<A> {
 
     type Ticket = ();
 
-    ghost trace_options_of = { λ port. port.asked };
+    ghost asked_of = { λ port. port.asked };
 
     fn submit(&mut self, call: &Call<A>) -> Result<(), Fault> {
         self.asked.note_submit(call);

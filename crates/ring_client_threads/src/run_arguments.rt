@@ -36,7 +36,7 @@ pub(crate) fn check_arguments<C: Caller>(
     check_ports(group, callers.len())?;
     check_numbers(group, stopped)?;
     check_first_nodes(group, callers)?;
-    check_distinct(stopped)
+    check_none_stopped_twice(stopped)
 }
 
 /// Checks how many ports this number of callers has.
@@ -84,7 +84,7 @@ fn check_first_nodes<C: Caller>(group: Fixed, callers: &[C]) -> Result<(), Fault
 /// Checks that no number is in the list twice.
 ///
 /// Errors: `Stopped` if one is.
-fn check_distinct(numbers: &[u8]) -> Result<(), Fault>
+fn check_none_stopped_twice(numbers: &[u8]) -> Result<(), Fault>
     ensures ok { OnOk result (AreDistinct numbers.now) }
     ensures err { OnErr result (¬ AreDistinct numbers.now) }
     ensures refused { IfErr result (λ fault. fault ≡ Stopped) }

@@ -13,7 +13,7 @@ use crate::run_arguments::check_arguments;
 use crate::running_clients::RunningClients;
 use ring_base::{Fault, Fixed, Proc};
 use ring_host_port::{
-    BookName, ClientCalls, Gate, Host, Opening, Seat, client_calls_of, take_seats,
+    BookName, ClientCalls, Gate, Host, Opening, Seat, order_and_history_of, take_seats,
 };
 use ring_object::Object;
 use std::marker::Brand;
@@ -86,7 +86,7 @@ where
     stop_named_nodes(rt, &host, stopped)?;
     let gate = host.paced_gate(rt)?;
     run_nodes_and_callers(rt, alloc, &host, &gate, seats, nodes, callers)?;
-    client_calls_of(rt, &host)
+    order_and_history_of(rt, &host)
 }
 
 /// Stops the nodes with these numbers, of a new host.

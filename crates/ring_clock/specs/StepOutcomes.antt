@@ -19,14 +19,14 @@ timeout_in (Timeout kind) = Some kind
 timeout_in Stop = None
 
 -- whether the input is a token or a commit token
-abbrev pub is_token : {A : Type 0} → Input A → Bool
-is_token (Frame (Token t)) = true
-is_token (Frame (Commit c)) = true
-is_token (Frame (Message x)) = false
-is_token (Frame (Join j)) = false
-is_token Noise = false
-is_token (Timeout kind) = false
-is_token Stop = false
+abbrev pub is_token_or_commit_token : {A : Type 0} → Input A → Bool
+is_token_or_commit_token (Frame (Token t)) = true
+is_token_or_commit_token (Frame (Commit c)) = true
+is_token_or_commit_token (Frame (Message x)) = false
+is_token_or_commit_token (Frame (Join j)) = false
+is_token_or_commit_token Noise = false
+is_token_or_commit_token (Timeout kind) = false
+is_token_or_commit_token Stop = false
 
 -- whether anything was sent: something is at a token that is taken
 abbrev pub has_sent_frame : {A : Type 0} → List (OutgoingFrame A) → Bool
@@ -50,7 +50,7 @@ outcome_from timeout token sends = record { timeout = timeout; took_token = toke
 
 -- the outcome of a step on this input that sent these frames
 abbrev pub outcome_of : {A : Type 0} → Input A → List (OutgoingFrame A) → StepOutcome
-outcome_of i sends = outcome_from (timeout_in i) (is_token i) sends
+outcome_of i sends = outcome_from (timeout_in i) (is_token_or_commit_token i) sends
 
 -- whether a step between these two states installed a ring
 abbrev pub installs : {A : Type 0} → Core A → Core A → Bool

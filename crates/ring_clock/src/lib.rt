@@ -11,4 +11,4 @@ mod step_outcome_of;
 
 pub use node_clock::NodeClock;
 pub use ring_timers::{Periods, StepOutcome, Timers};
-pub use step_outcome_of::{has_sent_frame, is_token, step_outcome, timeout_in};
+pub use step_outcome_of::{has_sent_frame, is_token_or_commit_token, step_outcome, timeout_in};

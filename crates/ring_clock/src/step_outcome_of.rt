@@ -4,7 +4,7 @@
 
 ghost use Rattle.std.specs.Prelude.{◌≡◌};
 ghost use Rattle.std.specs.List.{list_any};
-ghost use Rattle.ring_clock.specs.StepOutcomes.{is_token, has_sent_frame, is_join, timeout_in, outcome_from};
+ghost use Rattle.ring_clock.specs.StepOutcomes.{is_token_or_commit_token, has_sent_frame, is_join, timeout_in, outcome_from};
 
 use ring_base::Kind;
 use ring_core_spec::OutgoingFrame;
@@ -28,8 +28,8 @@ pub fn timeout_in<A: Allocator + Copy>(input: &Input<A>) -> Option<Kind>
 /// Returns whether the input is a token or a commit token.
 ///
 /// Rules: A node with a clock 5
-pub fn is_token<A: Allocator + Copy>(input: &Input<A>) -> bool
-    ensures { result ≡ is_token input.now }
+pub fn is_token_or_commit_token<A: Allocator + Copy>(input: &Input<A>) -> bool
+    ensures { result ≡ is_token_or_commit_token input.now }
 {
     match input {
         Input::Frame(Frame::Token(_)) | Input::Frame(Frame::Commit(_)) => true,
@@ -50,7 +50,7 @@ pub fn has_sent_frame<A: Allocator + Copy>(sends: &[OutgoingFrame<A>]) -> bool
 
 /// Returns what the timers need to know of a step with these `sends`.
 ///
-/// `timeout` and `is_token` are those of its input: see [`timeout_in`] and [`is_token()`].
+/// `timeout` and `is_token` are those of its input: see [`timeout_in`] and [`is_token_or_commit_token()`].
 ///
 /// Rules: A node with a clock 5
 pub fn step_outcome<A: Allocator + Copy>(

@@ -63,7 +63,13 @@ fn each_request_of_a_check_may_be_refused(rt: HostRuntime) {
     for passed in earlier..requests {
         let heap = RefusingHeap::new(rt.alloc(), passed);
         let told = check_of(&heap, rt.alloc());
-        let is_refused = matches!(told, Ok(CheckOutcome { earlier: _, result: Err(Fault::Memory) }));
+        let is_refused = matches!(
+            told,
+            Ok(CheckOutcome {
+                earlier: _,
+                result: Err(Fault::Memory)
+            })
+        );
         assert!(rt; is_refused && heap.has_refused(), "at {passed}");
     }
 }

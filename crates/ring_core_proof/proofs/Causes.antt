@@ -25,7 +25,7 @@ use Rattle.ring_core_spec.specs.Joining.{gather_entered, join_effect_at, is_gath
 use Rattle.ring_core_spec.specs.CommitSteps.{takes_first_round, takes_second_round, takes_start}
 use Rattle.ring_core_spec.specs.Deciding.{Ignore, Enqueue, Take, Visit, Fill, Learn, is_taken, decide_message, decide_token}
 use Rattle.ring_core_spec.specs.Deciding.{transition_in_gather, transition_into_gather, decide_join_elsewhere, decide_join, decide_round}
-use Rattle.ring_core_spec.specs.Deciding.{decide_commit, decide_frame, decide_if_named, decide_time, decide_payload, decide}
+use Rattle.ring_core_spec.specs.Deciding.{decide_commit, decide_frame, decide_if_named, decide_timeout, decide_payload, decide}
 use Rattle.ring_core_proof.specs.LawConditions.{IsAway, IsInputOf}
 
 by_message : {A : Type 0} → (c : Core A) (x : Message A) → IsInputOf c (FrameInput (MessageFrame x)) (decide_message c x)
@@ -82,7 +82,7 @@ by_named : {A : Type 0} → (b : Bool) (c : Core A) (frame : Frame A) → IsInpu
 by_named true c frame = by_frame c frame
 by_named false c frame = tt
 
-by_time : {A : Type 0} → (c : Core A) (s : State) (kind : Kind) → IsInputOf c (Timeout kind) (decide_time s kind)
+by_time : {A : Type 0} → (c : Core A) (s : State) (kind : Kind) → IsInputOf c (Timeout kind) (decide_timeout s kind)
 by_time c Stopped kind = tt
 by_time c Gather Retransmit = refl
 by_time c Gather Loss = inl refl

@@ -148,24 +148,24 @@ decide_if_named false c frame = Ignore
 -- Timeouts
 
 -- The transition for a timeout, by state and kind.
-abbrev pub decide_time : {A : Type 0} → State → Kind → Transition A
-decide_time Gather Retransmit = Repeat
-decide_time Gather JoinTime = Announce
-decide_time Gather Consensus = GiveUp
-decide_time Gather Loss = EnterGather
-decide_time Commit Retransmit = Repeat
-decide_time Commit JoinTime = Ignore
-decide_time Commit Consensus = Ignore
-decide_time Commit Loss = EnterGather
-decide_time Recovery Retransmit = Repeat
-decide_time Recovery JoinTime = Ignore
-decide_time Recovery Consensus = Ignore
-decide_time Recovery Loss = EnterGather
-decide_time Operational Retransmit = Repeat
-decide_time Operational JoinTime = Invite
-decide_time Operational Consensus = Ignore
-decide_time Operational Loss = EnterGather
-decide_time Stopped kind = Ignore
+abbrev pub decide_timeout : {A : Type 0} → State → Kind → Transition A
+decide_timeout Gather Retransmit = Repeat
+decide_timeout Gather JoinTime = Announce
+decide_timeout Gather Consensus = GiveUp
+decide_timeout Gather Loss = EnterGather
+decide_timeout Commit Retransmit = Repeat
+decide_timeout Commit JoinTime = Ignore
+decide_timeout Commit Consensus = Ignore
+decide_timeout Commit Loss = EnterGather
+decide_timeout Recovery Retransmit = Repeat
+decide_timeout Recovery JoinTime = Ignore
+decide_timeout Recovery Consensus = Ignore
+decide_timeout Recovery Loss = EnterGather
+decide_timeout Operational Retransmit = Repeat
+decide_timeout Operational JoinTime = Invite
+decide_timeout Operational Consensus = Ignore
+decide_timeout Operational Loss = EnterGather
+decide_timeout Stopped kind = Ignore
 
 -- Payloads: queued in Operational. End and Wrapped belong to recovery, and a visit makes the Packs
 
@@ -184,5 +184,5 @@ decide_payload Stopped payload = Ignore
 -- The transition for an input.
 abbrev pub decide : {A : Type 0} → Core A → Input A → Transition A
 decide c (FrameInput frame) = decide_if_named (is_named c.total frame) c frame
-decide c (Timeout kind) = decide_time c.state kind
+decide c (Timeout kind) = decide_timeout c.state kind
 decide c (Send payload) = decide_payload c.state payload

@@ -19,7 +19,7 @@ ghost use Rattle.ring_node_spec.specs.declared.input.Input.TheVariants.{Frame as
 
 use crate::valid_frame::ValidFrame;
 use ring_base::{Fault, Fixed, Kind, ProcSet, RingId};
-use ring_clock::{NodeClock, Periods, is_token, step_outcome, timeout_in};
+use ring_clock::{NodeClock, Periods, is_token_or_commit_token, step_outcome, timeout_in};
 use ring_core_spec::OutgoingFrame;
 use ring_node::{Input, Node};
 use ring_object::Object;
@@ -255,7 +255,7 @@ impl<O: Object> Driver<O> {
         // within the limits.
         node_fits_law::<O>();
         let timeout = timeout_in(&input);
-        let is_token = is_token(&input);
+        let is_token = is_token_or_commit_token(&input);
         let ring_before = self.node.ring();
         let outs = self.node.step(input)?;
         self.clock

@@ -11,7 +11,9 @@ mod driver;
 mod valid_frame;
 
 pub use driver::Driver;
-pub use ring_clock::{NodeClock, Periods, StepOutcome, Timers, is_token, step_outcome, timeout_in};
+pub use ring_clock::{
+    NodeClock, Periods, StepOutcome, Timers, is_token_or_commit_token, step_outcome, timeout_in,
+};
 pub use ring_node::{Input, Node, OutgoingFrame, Outs};
 pub use ring_order_proof::limit_laws::{call_fits_snapshot_law, node_fits_law};
 pub use ring_order_proof::linear_laws::linear_law;

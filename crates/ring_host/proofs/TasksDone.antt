@@ -69,7 +69,7 @@ module _ {O A : Type 0} (object : Sequential O) (group : Group) where
   -- A step that a cell journaled of a task, and with which a run ends, is the task's step.
   pub done_of_task : (place : Option (OneFrame A)) (task : Task A) (old mid new : CellView (Node A) A) (what : TaskKind) (sent : ℕ) (node : Node A) (done : StepReport)
       → HasJournaled (node_machine object group) old mid (Received (input_of place task) (ref_of task)) → IsEndOfRun object group mid new sent
-      → node ≡ new.node → what ≡ task_kind_of place task → done.task_kind ≡ what → done.sent ≡ sent → done.length ≡ (node_known_log node).committed
+      → node ≡ new.node → what ≡ task_kind_of place task → done.task_kind ≡ what → done.sent ≡ sent → done.committed_len ≡ (node_known_log node).committed
       → IsTurnActivity node what sent done.activity → IsStepReport object group place task done
   done_of_task place task old mid new what sent node done j e same of_task task_kind many long activity =
       let one : e.entered.step ≡ j.step = last_same (steps_of mid.me e.book.lines) old.journal e.entered.step j.step (sym e.entered.was ∙ j.journal) in

@@ -50,5 +50,5 @@ module _ {O A : Type 0} (object : Sequential O) (group : Group) where
     pub input : step.input ≡ Received (input_of place task) (ref_of task)
     pub task_kind_is : done.task_kind ≡ task_kind_of place task
     pub frames : done.sent ≡ length step.frames
-    pub committed : done.length ≡ (node_known_log (node_after_lines (with_step lines step) step.node)).committed
+    pub committed : done.committed_len ≡ (node_known_log (node_after_lines (with_step lines step) step.node)).committed
     pub activity : IsTurnActivity (node_after_lines (with_step lines step) step.node) done.task_kind done.sent done.activity

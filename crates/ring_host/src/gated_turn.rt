@@ -35,7 +35,7 @@ use std::sync::Wait;
 #[derive(Clone, Copy)]
 pub(crate) struct StepReport {
     /// The node's committed length after the step, dropped places included.
-    length: u64,
+    committed_len: u64,
     task_kind: TaskKind,
     /// The number of frames that its line sent.
     ///
@@ -54,13 +54,13 @@ pub(crate) struct StepReport {
 fn step_report<O: Object>(node: &Node<O>, task_kind: TaskKind, sent: usize) -> StepReport
     ensures task_kind { result.task_kind ≡ task_kind }
     ensures sent { result.sent ≡ sent }
-    ensures length { result.length ≡ (node_known_log node.now).committed }
+    ensures length { result.committed_len ≡ (node_known_log node.now).committed }
     ensures activity { IsTurnActivity node.now task_kind sent result.activity }
 {
-    let length = node.committed_len();
+    let committed_len = node.committed_len();
     let activity = turn_activity(node, task_kind, sent);
     StepReport {
-        length,
+        committed_len,
         task_kind,
         sent,
         dropped: 0,
@@ -92,7 +92,7 @@ fn is_quiet<O: Object>(node: &Node<O>, sent: usize) -> bool
 }
 
 /// Updates the seat's clock after a step: the turn took the item if that was a token that the node didn't ignore.
-fn note_step<A: Allocator + Copy + Drop>(seat: &mut Seat<A>, done: &StepReport)
+fn note_token_taken<A: Allocator + Copy + Drop>(seat: &mut Seat<A>, done: &StepReport)
     ensures clock { IsNoted done.now.task_kind done.now.sent seat.old.clock seat.new.clock }
     ensures seat { seat.new ≡ record (seat.old) { clock = seat.new.clock } }
 {
@@ -111,14 +111,14 @@ fn note_step<A: Allocator + Copy + Drop>(seat: &mut Seat<A>, done: &StepReport)
 /// `None` stands for a turn that found nothing to do: it dropped no copy and has no length.
 ///
 /// Rules: The book and the threads 21
-pub(crate) fn turn_of(done: Option<StepReport>) -> Turn
+pub(crate) fn turn_report(done: Option<StepReport>) -> Turn
     ensures length { result.length ≡ length_of done }
     ensures empty_turns { done ≡ None → result.dropped ≡ 0 }
 {
     match done {
         Some(done) => Turn {
             dropped: done.dropped,
-            length: Some(done.length),
+            length: Some(done.committed_len),
         },
         None => Turn {
             dropped: 0,
@@ -139,7 +139,7 @@ impl<C, B, A: Allocator + Copy + Drop> HostOf<C, B, A> {
     }
 
     /// Records the node's state after a step and the number of its unanswered calls, on which its waits depend.
-    fn note_step(&self, node: Proc, state: State, waiting: usize) {
+    fn note_for_waits(&self, node: Proc, state: State, waiting: usize) {
         if let Some(inbox) = self.inboxes.get(node.number() as usize - 1) {
             inbox.note_step(node, state, waiting);
         }
@@ -152,7 +152,7 @@ impl<C, B, A: Allocator + Copy + Drop> HostOf<C, B, A> {
         let mut dropped = outbox.dropped;
         for (index, outbox_frame) in outbox.frames.as_slice().iter().enumerate() {
             for receiver in outbox_frame.to.iter() {
-                if !self.push(rt, receiver, outbox, index) {
+                if !self.push_copy(rt, receiver, outbox, index) {
                     dropped = dropped.saturating_add(1);
                 }
             }
@@ -164,7 +164,7 @@ impl<C, B, A: Allocator + Copy + Drop> HostOf<C, B, A> {
     ///
     /// Returns false if the receiver isn't one of this host's nodes, the inbox is full, or an allocation for the copy
     /// fails.
-    fn push<W: Wait>(&self, rt: &W, receiver: Proc, outbox: &Outbox<A>, index: usize) -> bool {
+    fn push_copy<W: Wait>(&self, rt: &W, receiver: Proc, outbox: &Outbox<A>, index: usize) -> bool {
         let Some(inbox) = self.inboxes.get(receiver.number() as usize - 1) else {
             return false;
         };
@@ -278,7 +278,7 @@ impl<O: Object, K: BookName<O::Alloc>> HostOf<Cell<O, K>, Book<O, K>, O::Alloc> 
         requires own { IsOwn self.now seat.old }
         requires fits { TaskFits received.now task }
         ensures seat { IsOwn self.now seat.new × (seat.new.node ≡ seat.old.node) × (seat.new.seen ≡ seat.old.seen) }
-        ensures ok { IfOk result (λ done. seat.new.published ≡ seat.old.published ++ done.length ∷ []) }
+        ensures ok { IfOk result (λ done. seat.new.published ≡ seat.old.published ++ done.committed_len ∷ []) }
         ensures done { IfOk result (IsStepReport O.sequential K.name.group received.now task) }
         ensures clock { IfOk result (λ done. IsNoted done.task_kind done.sent seat.old.clock seat.new.clock) }
         ensures gate { OnOk result (HasPassed (G.has_reached gate.now) seat.old.node) }
@@ -292,8 +292,8 @@ impl<O: Object, K: BookName<O::Alloc>> HostOf<Cell<O, K>, Book<O, K>, O::Alloc> 
         let stepped = self.step_and_send(rt, node, task, received, gate, &mut outbox);
         seat.put_outbox(outbox);
         let done = stepped?;
-        note_step(seat, &done);
-        self.gauge.publish(seat, done.length);
+        note_token_taken(seat, &done);
+        self.gauge.publish(seat, done.committed_len);
         gate.at(node, GatePlace::Entered);
         gate.after_turn(node, done.activity);
         Ok(done)
@@ -345,7 +345,7 @@ impl<O: Object, K: BookName<O::Alloc>> HostOf<Cell<O, K>, Book<O, K>, O::Alloc> 
         let place = self.reserve_place(rt, node, &task)?;
         let done = self.step_locked(rt, place, &mut cell, task, received, outbox)?;
         let after = cell.node();
-        self.note_step(node, after.state(), after.waiting());
+        self.note_for_waits(node, after.state(), after.waiting());
         Ok(done)
     }
 

@@ -18,7 +18,7 @@ ghost use Rattle.ring_host.specs.Turns.{published_by, IsCounted, IsReported};
 use crate::answer_cache::AnswerCache;
 use crate::event_count::EventCount;
 use crate::gate::YieldingGate;
-use crate::gated_turn::turn_of;
+use crate::gated_turn::turn_report;
 use crate::inbox::Inbox;
 use crate::inbox_frame_and_task::Task;
 use crate::locked_step::stop_cell;
@@ -217,7 +217,7 @@ impl<O: Object, K: BookName<O::Alloc>> HostOf<Cell<O, K>, Book<O, K>, O::Alloc> 
         ensures refused { IfErr result IsTurnFault }
     {
         let done = self.gated_turn(rt, seat, &YieldingGate)?;
-        Ok(turn_of(done))
+        Ok(turn_report(done))
     }
 
     /// Submits a call at the node, enters its line, and returns the node with its ticket.

@@ -30,11 +30,11 @@ node_after nodes first passed = (first - 1 + passed) % nodes + 1
 
 -- The client of this number before its first call. It polls a port at most 1,000,000 times a call. It has a port to each node,
 -- `first` before the others in order, and nothing was submitted at any port.
-pub record IsNew {P : Type 0} (node_of : P → ℕ) (trace_options_of : P → Asked) (number nodes first : ℕ) (client : ClientOf P) : Type 0 where
+pub record IsNew {P : Type 0} (node_of : P → ℕ) (asked_of : P → Asked) (number nodes first : ℕ) (client : ClientOf P) : Type 0 where
   pub its_number : client.client ≡ number
   pub next_call : client.next ≡ 1
   pub no_call : client.open_call ≡ None
   pub polls : client.turns ≡ 1000000
   pub count : length client.ports ≡ nodes
   pub order : (k : ℕ) (port : P) → slice_get client.ports k ≡ Some port → node_of port ≡ node_after nodes first k
-  pub fresh : (k : ℕ) (port : P) → slice_get client.ports k ≡ Some port → trace_options_of port ≡ new_asked
+  pub fresh : (k : ℕ) (port : P) → slice_get client.ports k ≡ Some port → asked_of port ≡ new_asked

@@ -36,7 +36,7 @@ pub struct ClientCalls<A: Allocator + Copy + Drop = Global> {
 /// Errors: `Memory` if an allocation fails.
 ///
 /// Rules: The book and the threads 15 and 26; Sessions 9 to 11
-pub fn client_calls_of<O: Object, K: BookName<O::Alloc>, W: Wait>(
+pub fn order_and_history_of<O: Object, K: BookName<O::Alloc>, W: Wait>(
     rt: &W,
     host: &Host<O, K>,
 ) -> Result<ClientCalls<O::Alloc>, Fault>

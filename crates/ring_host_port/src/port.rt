@@ -209,7 +209,7 @@ impl<'a, O: Object, K: BookName<O::Alloc>, W: Wait> Port for HostPort<'a, O, K, 
 
     type Ticket = HostTicket;
 
-    ghost trace_options_of = { λ port. port.asked };
+    ghost asked_of = { λ port. port.asked };
 
     /// Submits a copy of the call at the port's node and records it in `asked`.
     ///

@@ -32,14 +32,14 @@ pub fn frames_reason(alloc: Global, bytes: &[u8]) -> Result<Option<String>, Allo
         match Frame::decode_first_frame_into(alloc, rest, &mut frame) {
             Ok(length) => rest = rest.get(length..).unwrap_or(&[]),
             Err(Fault::Memory) => return Err(AllocError),
-            Err(_) => return Ok(Some(start_reason(alloc, rest)?)),
+            Err(_) => return Ok(Some(no_frame_reason(alloc, rest)?)),
         }
     }
     Ok(None)
 }
 
 /// Explains why no frame begins these bytes, of which there is at least one.
-fn start_reason(alloc: Global, rest: &[u8]) -> Result<String, AllocError> {
+fn no_frame_reason(alloc: Global, rest: &[u8]) -> Result<String, AllocError> {
     if let Some(start) = wrong_start(rest) {
         return wrong_start_reason(alloc, rest, start);
     }
@@ -61,15 +61,19 @@ fn wrong_start(rest: &[u8]) -> Option<[u8; 2]> {
     (start != START).then_some(start)
 }
 
-/// Explains that the bytes, whose first two are `start`, don't begin as a frame does.
-fn wrong_start_reason(alloc: Global, rest: &[u8], start: [u8; 2]) -> Result<String, AllocError> {
+/// Explains that the bytes, whose first two are `found_start`, don't begin as a frame does.
+fn wrong_start_reason(
+    alloc: Global,
+    rest: &[u8],
+    found_start: [u8; 2],
+) -> Result<String, AllocError> {
     if begins_with_text(rest) {
         return String::from_str(
             alloc,
             "text stands there; frames are bytes, and each begins with the bytes 54 52",
         );
     }
-    let [first, second] = start;
+    let [first, second] = found_start;
     format!(in alloc;
         "the bytes {first:02x} {second:02x} stand there, and a frame begins with 54 52"
     )
@@ -81,8 +85,12 @@ fn begins_with_text(rest: &[u8]) -> bool {
         || byte.is_ascii_whitespace())
 }
 
-/// Explains why no frame can have this head, or the `left` bytes after it in the file.
-fn head_reason(alloc: Global, head: FrameHead, left: usize) -> Result<String, AllocError> {
+/// Explains why no frame can have this head, or the `bytes_after_head` bytes after it in the file.
+fn head_reason(
+    alloc: Global,
+    head: FrameHead,
+    bytes_after_head: usize,
+) -> Result<String, AllocError> {
     let FrameHead {
         version,
         kind,
@@ -103,9 +111,9 @@ fn head_reason(alloc: Global, head: FrameHead, left: usize) -> Result<String, Al
             "{name} with a body of {body_bytes} bytes stands there; a body has at most {MAX_BODY_BYTES}"
         );
     }
-    if left < body_bytes as usize {
+    if bytes_after_head < body_bytes as usize {
         return format!(in alloc;
-            "the file ends after {left} of the {body_bytes} bytes of the body of {name}"
+            "the file ends after {bytes_after_head} of the {body_bytes} bytes of the body of {name}"
         );
     }
     format!(in alloc;

@@ -4,11 +4,11 @@
 //! Formats: The command line
 #![tactic(auto)]
 
-mod legal;
+mod book_order_check;
 mod live_client;
 mod printing;
 mod running;
 
-pub use legal::is_legal;
+pub use book_order_check::is_book_order_linearization;
 pub use printing::live;
 pub use running::{LiveResult, run_live_nodes};

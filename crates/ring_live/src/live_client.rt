@@ -132,8 +132,8 @@ fn add_to_counter<P: Port>(client: &mut Client<P>, calls: u8) -> u64
 ///
 /// Rules: Objects 7
 fn read_counter<P: Port>(client: &mut Client<P>) -> Result<u64, Fault>
-    ensures counter { IfOk result (HasRead P.trace_options_of client.old client.new) }
-    ensures refused { IfErr result (CallRefused P.trace_options_of client.old client.new read_bytes) }
+    ensures counter { IfOk result (HasRead P.asked_of client.old client.new) }
+    ensures refused { IfErr result (CallRefused P.asked_of client.old client.new read_bytes) }
 {
     let read = COUNTERS.operation(&Counters::read(0));
     match client.call(read.as_slice()) {

@@ -9,7 +9,7 @@ ghost use Rattle.ring_host_port.specs.Clients.{AreSeats};
 ghost use Rattle.ring_live.specs.LiveClients.{HasSeats, answered_of, counter_of, counter_after, live_result_of};
 ghost use Rattle.ring_seat.specs.Seats.{IsAt};
 
-use crate::legal::is_legal;
+use crate::book_order_check::is_book_order_linearization;
 use crate::live_client::{LiveClient, run_live_client};
 use ring_base::{Fault, Fixed, MAX_PROCESSORS};
 use ring_host_port::{BookName, Gate, Host, Opening, Seat, take_seats};
@@ -272,6 +272,6 @@ where
         live_clients.as_mut_slice(),
         calls,
     );
-    let is_legal = is_legal(rt, alloc, host)?;
+    let is_legal = is_book_order_linearization(rt, alloc, host)?;
     Ok(live_result_of(nodes, run_result, live_clients.as_slice(), is_legal))
 }

@@ -6,7 +6,7 @@ use Rattle.ring_session.specs.Objects.{Sequential}
 use Rattle.ring_core_spec.specs.Payloads.{Call}
 use Rattle.ring_session.specs.declared.answer.Answer.{Answer}
 use Rattle.ring_session.specs.Deduplicated.{deduplicated, IsCallAt}
-use Rattle.ring_session.specs.SessionAnswer.{decode_reply, session_answer}
+use Rattle.ring_session.specs.SessionAnswer.{reply_of_answer, session_answer}
 pub use Rattle.ring_log.specs.EpochHistories.{longer_list}
 use Rattle.ring_node_spec.specs.declared.item.Item.{Item}
 use Rattle.ring_node_spec.specs.declared.item.Item.TheVariants.{Issue, Reply}
@@ -45,7 +45,7 @@ module _ {O : Type 0} (object : Sequential O) where
     pub stands : IsCallAt calls place c
     pub answer : Answer
     pub answered : session_answer object calls place ≡ Some answer
-    pub brings : decode_reply answer ≡ Some r
+    pub brings : reply_of_answer answer ≡ Some r
 
   -- the item is a reply that some node gave
   abbrev pub IsReplyGiven : {A : Type 0} → List (List (Call A)) → Item A → Type 0

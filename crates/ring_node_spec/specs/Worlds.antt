@@ -8,7 +8,7 @@ use Rattle.ring_base.specs.Processors.{has}
 use Rattle.ring_base.specs.declared.fault.Fault.{Fault}
 use Rattle.ring_session.specs.Objects.{Sequential}
 use Rattle.ring_core_spec.specs.Payloads.{Call}
-use Rattle.ring_session.specs.SessionAnswer.{decode_reply}
+use Rattle.ring_session.specs.SessionAnswer.{reply_of_answer}
 use Rattle.ring_core_spec.specs.Frames.{Frame}
 use Rattle.ring_core_spec.specs.State.{OutgoingFrame, Transmission, frame_at}
 use Rattle.ring_node_spec.specs.Stepping.{TicketAnswer}
@@ -63,7 +63,7 @@ reply_items c (Some r) = ReplyItem c r ∷ []
 -- the replies that answers add to the history, in their order
 abbrev pub reply_items_of : {A : Type 0} → List (TicketAnswer A) → List (Item A)
 reply_items_of [] = []
-reply_items_of (a ∷ rest) = reply_items a.call (decode_reply a.answer) ++ reply_items_of rest
+reply_items_of (a ∷ rest) = reply_items a.call (reply_of_answer a.answer) ++ reply_items_of rest
 
 -- the reports of the answers that node i gave
 abbrev pub reports_of_answers : {A : Type 0} → ℕ → List (TicketAnswer A) → List (Told A)

@@ -7,7 +7,7 @@ use Rattle.ring_base.specs.Processors.{has}
 use Rattle.ring_base.specs.declared.fault.Fault.{Fault}
 use Rattle.ring_object.specs.Operations.{Sequential}
 use Rattle.ring_payload.specs.declared.call.Call.{Call}
-use Rattle.ring_session.specs.SessionAnswer.{decode_reply}
+use Rattle.ring_session.specs.SessionAnswer.{reply_of_answer}
 use Rattle.ring_wire.specs.Frames.{FrameFits}
 use Rattle.ring_wire.specs.declared.frame.Frame.{Frame}
 use Rattle.ring_core_spec.specs.State.{OutgoingFrame, Transmission, frame_at}
@@ -49,7 +49,7 @@ one_replied c (Some r) = omega arith
 few_items : {A : Type 0} → (answers : List (TicketAnswer A)) → length (reply_items_of answers) ≤ length answers
 few_items [] = omega arith
 few_items (a ∷ rest) =
-    omega (arith, length-append (reply_items a.call (decode_reply a.answer)) (reply_items_of rest), one_replied a.call (decode_reply a.answer), few_items rest)
+    omega (arith, length-append (reply_items a.call (reply_of_answer a.answer)) (reply_items_of rest), one_replied a.call (reply_of_answer a.answer), few_items rest)
 
 length-carried_frames : {A : Type 0} → (i : ℕ) (sends : List (OutgoingFrame A)) → length (carried_frames i sends) ≡ length sends
 length-carried_frames {A} i sends = length-map sends (λ (s : OutgoingFrame A). record { from = i; to = s.to; frame = s.frame })

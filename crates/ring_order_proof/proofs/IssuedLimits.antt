@@ -8,7 +8,7 @@ use Rattle.ring_object.specs.Operations.{Sequential}
 use Rattle.ring_payload.specs.declared.call.Call.{Call}
 use Rattle.ring_core_spec.specs.State.{Transmission, frame_at}
 use Rattle.ring_session.specs.Snapshots.{KeepsLimits}
-use Rattle.ring_session.specs.SessionAnswer.{decode_reply}
+use Rattle.ring_session.specs.SessionAnswer.{reply_of_answer}
 use Rattle.ring_session.specs.declared.ticket_answer.TicketAnswer.{TicketAnswer}
 use Rattle.ring_node_spec.specs.declared.input.Input.{Input}
 use Rattle.ring_node_spec.specs.declared.input.Input.TheVariants.{Frame as FrameInput, Timeout as TimeInput}
@@ -34,7 +34,7 @@ reply_items-keeps c (Some r) = (tt, tt)
 
 items-keep : {A : Type 0} (answers : List (TicketAnswer A)) → Each ItemKeeps (reply_items_of answers)
 items-keep [] = tt
-items-keep (a ∷ rest) = each-append ItemKeeps (reply_items a.call (decode_reply a.answer)) (reply_items_of rest) (reply_items-keeps a.call (decode_reply a.answer)) (items-keep rest)
+items-keep (a ∷ rest) = each-append ItemKeeps (reply_items a.call (reply_of_answer a.answer)) (reply_items_of rest) (reply_items-keeps a.call (reply_of_answer a.answer)) (items-keep rest)
 
 module _ {O A : Type 0} (object : Sequential O) where
   stepped-keeps : (w : World A) (b : Bool) (i : ℕ) (input : Input A) → HistoryKeeps w → HistoryKeeps (world_after_input_if_member object b w i input)

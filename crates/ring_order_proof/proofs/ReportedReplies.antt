@@ -11,7 +11,7 @@ use Rattle.ring_payload.specs.declared.call.Call.{Call}
 use Rattle.ring_session.specs.declared.answer.Answer.{Answer}
 use Rattle.ring_session.specs.declared.answer.Answer.TheVariants.{Done, Kept, Refused}
 use Rattle.ring_session.specs.Deduplicated.{IsCallAt}
-use Rattle.ring_session.specs.SessionAnswer.{is_same, session_answer, decode_reply}
+use Rattle.ring_session.specs.SessionAnswer.{is_same, session_answer, reply_of_answer}
 use Rattle.ring_session.specs.SessionAnswerLaws.{is_same-true, session_answer-front}
 use Rattle.ring_session.specs.declared.ticket_answer.TicketAnswer.{TicketAnswer}
 use Rattle.ring_session.specs.Table.{Table, opening, table_answer, table_next, table_after}
@@ -93,8 +93,8 @@ module _ {O A : Type 0} (object : Sequential O) (lists : List (List (Call A))) (
   items-append : (xs ys : List (TicketAnswer A)) → reply_items_of (xs ++ ys) ≡ reply_items_of xs ++ reply_items_of ys
   items-append [] ys = refl
   items-append (x ∷ xs) ys =
-      ap (λ w. reply_items x.call (decode_reply x.answer) ++ w) (items-append xs ys)
-      ∙ sym (append_assoc (reply_items x.call (decode_reply x.answer)) (reply_items_of xs) (reply_items_of ys))
+      ap (λ w. reply_items x.call (reply_of_answer x.answer) ++ w) (items-append xs ys)
+      ∙ sym (append_assoc (reply_items x.call (reply_of_answer x.answer)) (reply_items_of xs) (reply_items_of ys))
 
   right-append : (xs ys : List (TicketAnswer A)) → All IsRight (reply_items_of xs) → All IsRight (reply_items_of ys) → All IsRight (reply_items_of (xs ++ ys))
   right-append xs ys h k = rw (items-append xs ys) (All-append IsRight (reply_items_of xs) (reply_items_of ys) h k)

@@ -35,7 +35,7 @@ use Rattle.ring_node_spec.specs.Nodes.{Node, node_known_log, is_stopped, is_clos
 use Rattle.ring_node_spec.specs.Stepping.{NodeStepResult, with_dropped, newly_committed, drops, step_after_trim, did, settled, node_after_outputs, send_of, node_step}
 use Rattle.ring_node_spec.specs.declared.input.Input.TheVariants.{Frame as FrameInput}
 use Rattle.ring_order_proof.proofs.StepSends.{step_sends}
-use Rattle.ring_clock.specs.StepOutcomes.{has_sent_frame, is_token}
+use Rattle.ring_clock.specs.StepOutcomes.{has_sent_frame, is_token_or_commit_token}
 
 -- Frames sent to somebody
 
@@ -98,7 +98,7 @@ round_sends Recovery c k =
 round_sends Operational c k = inl refl
 round_sends Stopped c k = inl refl
 
-frame_sends : {A : Type 0} → (c : Core A) (frame : Frame A) → is_token (FrameInput frame) ≡ true → Sends c (decide_frame c frame)
+frame_sends : {A : Type 0} → (c : Core A) (frame : Frame A) → is_token_or_commit_token (FrameInput frame) ≡ true → Sends c (decide_frame c frame)
 frame_sends c (TokenFrame t) e = token_sends c.state c t
 frame_sends c (CommitFrame k) e = cond_both (is_at c.me k) (decide_round c.state c k) Ignore (Sends c) (λ at. round_sends c.state c k) (λ at. inl refl)
 frame_sends c (MessageFrame x) e = absurd (cc e)
@@ -124,7 +124,7 @@ taken_by : {A : Type 0} → (c : Core A) (a : Transition A) → Sends c a → ¬
 taken_by c a (inl e) taken = absurd (taken e)
 taken_by c a (inr h) taken = proposal_behind (may_propose_after a && proposes (apply_transition c a).core) (apply_transition c a) h
 
-taken_sends : {A : Type 0} → (c : Core A) (frame : Frame A) → is_token (FrameInput frame) ≡ true → ¬ (decide c (CoreFrame frame) ≡ Ignore)
+taken_sends : {A : Type 0} → (c : Core A) (frame : Frame A) → is_token_or_commit_token (FrameInput frame) ≡ true → ¬ (decide c (CoreFrame frame) ≡ Ignore)
     → has_sent_frame (filter_map send_of (ring_step c (CoreFrame frame)).outs) ≡ true
 taken_sends c frame e taken =
     let i = CoreFrame frame in
@@ -162,7 +162,7 @@ module _ {O A : Type 0} (object : Sequential O) where
       (ignored_sends n.core (CoreFrame frame) e)
 
   -- at one that is taken, something is, if the node goes on
-  pub something_sent : (n : Node A) (frame : Frame A) → is_token (FrameInput frame) ≡ true → ¬ (decide n.core (CoreFrame frame) ≡ Ignore)
+  pub something_sent : (n : Node A) (frame : Frame A) → is_token_or_commit_token (FrameInput frame) ≡ true → ¬ (decide n.core (CoreFrame frame) ≡ Ignore)
       → is_stopped (node_step object n (FrameInput frame)).node.core.state ≡ false → has_sent_frame (node_step object n (FrameInput frame)).sends ≡ true
   something_sent n frame e taken runs =
       let s = ring_step n.core (CoreFrame frame) in

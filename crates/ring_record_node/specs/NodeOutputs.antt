@@ -17,7 +17,7 @@ use Rattle.ring_node_spec.specs.declared.input.Input.{Input}
 use Rattle.ring_timers.specs.declared.periods.Periods.{Periods}
 use Rattle.ring_timers.specs.Timers.{TimersView}
 use Rattle.ring_clock.specs.Clocks.{ClockView, clock_opening, next_time_of}
-use Rattle.ring_clock.specs.StepOutcomes.{is_token, has_sent_frame, installs}
+use Rattle.ring_clock.specs.StepOutcomes.{is_token_or_commit_token, has_sent_frame, installs}
 use Rattle.ring_counts.specs.Counts.{no_counts, count_numbers}
 use Rattle.ring_counts.specs.declared.node_counts.NodeCounts.{NodeCounts}
 use Rattle.ring_counts.specs.declared.node_counts.NodeGauges.{NodeGauges}
@@ -49,7 +49,7 @@ outs_text old s = sends_text s.sends ++ answers_text s.answers ++ restored_text 
 
 -- the outcome of a token, from the input and the frames sent at it
 abbrev pub token_fate : {A : Type 0} → Input A → List (OutgoingFrame A) → TokenOutcome
-token_fate i sends = token_outcome_of (is_token i) (has_sent_frame sends)
+token_fate i sends = token_outcome_of (is_token_or_commit_token i) (has_sent_frame sends)
 
 -- a step gave these outputs and left the node idle: one frame at most and nothing else, the ring installed, and all of the log
 -- committed

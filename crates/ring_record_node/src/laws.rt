@@ -8,7 +8,7 @@ ghost use Rattle.ring_core_spec.specs.declared.input.Input.TheVariants.{Frame as
 ghost use Rattle.ring_node_spec.specs.Nodes.{Node, is_stopped};
 ghost use Rattle.ring_node_spec.specs.Stepping.{node_step};
 ghost use Rattle.ring_node_spec.specs.declared.input.Input.TheVariants.{Frame as FrameInput};
-ghost use Rattle.ring_clock.specs.StepOutcomes.{has_sent_frame, is_token};
+ghost use Rattle.ring_clock.specs.StepOutcomes.{has_sent_frame, is_token_or_commit_token};
 
 use ring_object::Object;
 
@@ -18,9 +18,9 @@ use ring_object::Object;
 /// It has no effect at run time.
 /// Rules: Nodes that records drive 3
 pub fn token_law<O: Object>()
-    ensures ignored { (n : Node O.Alloc) (frame : Frame O.Alloc) → is_token (FrameInput frame) ≡ true → decide n.core (CoreFrame frame) ≡ Ignore
+    ensures ignored { (n : Node O.Alloc) (frame : Frame O.Alloc) → is_token_or_commit_token (FrameInput frame) ≡ true → decide n.core (CoreFrame frame) ≡ Ignore
         → has_sent_frame (node_step O.sequential n (FrameInput frame)).sends ≡ false }
-    ensures taken { (n : Node O.Alloc) (frame : Frame O.Alloc) → is_token (FrameInput frame) ≡ true → ¬ (decide n.core (CoreFrame frame) ≡ Ignore)
+    ensures taken { (n : Node O.Alloc) (frame : Frame O.Alloc) → is_token_or_commit_token (FrameInput frame) ≡ true → ¬ (decide n.core (CoreFrame frame) ≡ Ignore)
         → is_stopped (node_step O.sequential n (FrameInput frame)).node.core.state ≡ false
         → has_sent_frame (node_step O.sequential n (FrameInput frame)).sends ≡ true }
 {}

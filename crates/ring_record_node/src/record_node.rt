@@ -22,7 +22,9 @@ use crate::encoded::{EncodedStep, write_encoded};
 use crate::encoding_node::EncodingNode;
 use crate::frame_inputs::input_of;
 use ring_base::{Fault, Fixed, Kind, State};
-use ring_clock::{NodeClock, Periods, has_sent_frame, is_token, step_outcome, timeout_in};
+use ring_clock::{
+    NodeClock, Periods, has_sent_frame, is_token_or_commit_token, step_outcome, timeout_in,
+};
 use ring_counts::{CountedInput, NodeCounts, NodeGauges};
 use ring_failure::Failure;
 use ring_node::Input;
@@ -154,7 +156,7 @@ impl<O: Object> RecordNode<O> {
         requires { InputFits input }
         ensures { HasWrittenUnlessFailed result (W.contents out.old) (W.contents out.new) (Steps O.sequential self.old input self.new) }
     {
-        let is_token = is_token(&input);
+        let is_token = is_token_or_commit_token(&input);
         match self.step(input) {
             Ok(encoded) => {
                 let is_taken = has_sent_frame(encoded.outs.sends.as_slice());
@@ -186,7 +188,7 @@ impl<O: Object> RecordNode<O> {
         ensures installed { IfOk result (λ encoded. encoded.has_installed ≡ installs self.old.node.core self.new.node.core) }
     {
         let timeout = timeout_in(&input);
-        let is_token = is_token(&input);
+        let is_token = is_token_or_commit_token(&input);
         let counted = CountedInput::of(&input);
         match self.node.step(input) {
             Ok(encoded) => {

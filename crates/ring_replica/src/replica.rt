@@ -51,11 +51,11 @@ pub struct Replica<O: Object> {
     log_being_dropped: Option<Log<O::Alloc>>,
     /// The log's length, committed length and trimmed length at the end of the last finished step.
     log_len_at_step: u64,
-    committed: u64,
+    committed_len: u64,
     trimmed: u64,
     /// The number of committed calls that took effect: by the end of the last finished step, and by that of the
     /// unfinished one.
-    effects: u64,
+    effect_count: u64,
     effects_in_step: u64,
     stopped: bool,
     history: Ghost<ReplicaHistory<O::Alloc>>,
@@ -66,10 +66,10 @@ impl<O: Object> Model for Replica<O> {
 
     ghost Value = { ReplicaValue O.Alloc };
 
-    ghost view = { λ r. replica_view r.replication r.log_being_dropped r.committed r.stopped r.history.value };
+    ghost view = { λ r. replica_view r.replication r.log_being_dropped r.committed_len r.stopped r.history.value };
 
-    ghost invariant = { λ r. IsCounted O.sequential r.replication r.sessions r.tickets r.log_being_dropped r.log_len_at_step r.committed r.trimmed
-        r.effects r.effects_in_step r.stopped r.history.value };
+    ghost invariant = { λ r. IsCounted O.sequential r.replication r.sessions r.tickets r.log_being_dropped r.log_len_at_step r.committed_len r.trimmed
+        r.effect_count r.effects_in_step r.stopped r.history.value };
 }
 
 impl<O: Object> Replica<O> {
@@ -92,9 +92,9 @@ impl<O: Object> Replica<O> {
             replication: Replication::new(alloc, fixed, me),
             log_being_dropped: None,
             log_len_at_step: 0,
-            committed: 0,
+            committed_len: 0,
             trimmed: 0,
-            effects: 0,
+            effect_count: 0,
             effects_in_step: 0,
             stopped: false,
             history: history_opening(me),
@@ -123,9 +123,9 @@ impl<O: Object> Replica<O> {
             replication,
             sessions,
             log_len_at_step: self.log_len_at_step,
-            committed: self.committed,
+            committed_len: self.committed_len,
             trimmed: self.trimmed,
-            effects: self.effects,
+            effect_count: self.effect_count,
             effects_in_step: self.effects_in_step,
             stopped: self.stopped,
         })
@@ -160,7 +160,7 @@ impl<O: Object> Replica<O> {
         requires runs { self.now.stopped ≡ false }
         ensures { result ≡ has_adopted_running running.now self.now }
     {
-        is_running_ring(running, self.replication.stored_log().log().last_primary())
+        is_last_primary_running(running, self.replication.stored_log().log().last_primary())
     }
 
     /// Gives a submitted call the next ticket and returns it.
@@ -264,7 +264,7 @@ impl<O: Object> Replica<O> {
         self.replication.apply_outputs(
             running,
             self.tickets.pending(),
-            self.committed,
+            self.committed_len,
             outs,
             &mut replica_output.due,
         )?;
@@ -277,8 +277,8 @@ impl<O: Object> Replica<O> {
             self.replication.stored_log(),
             &mut self.sessions,
             self.tickets.pending(),
-            self.committed,
-            self.effects,
+            self.committed_len,
+            self.effect_count,
             replica_output,
         )?;
         let Some(effects_in_step) = effects_in_step else {
@@ -317,17 +317,17 @@ impl<O: Object> Replica<O> {
         }
         let more = newly_committed_calls(
             current_log(self.replication.stored_log(), &self.log_being_dropped),
-            self.committed,
+            self.committed_len,
         );
         self.history = history_after_step(&self.history, self.replication.epochs(), more, answers);
         self.tickets.record_committed_answers(more, answers);
         let log = self.replication.stored_log().log();
         self.log_len_at_step = log.length();
-        self.committed = log.committed_length();
+        self.committed_len = log.committed_length();
         self.trimmed = log.trimmed();
-        self.effects = self.effects_in_step;
+        self.effect_count = self.effects_in_step;
         self.replication.end_step();
-        take_leaving(self.alloc, &mut self.log_being_dropped)
+        take_dropped_calls(self.alloc, &mut self.log_being_dropped)
     }
 
     /// Stops the replica for good. Its log and its answers stay readable.
@@ -373,7 +373,7 @@ impl<O: Object> Replica<O> {
         ensures { result.now ≡ replica_committed self.now }
     {
         let log = log_before_step(self.replication.stored_log(), &self.log_being_dropped);
-        &log.committed_calls()[..(self.committed - self.trimmed) as usize]
+        &log.committed_calls()[..(self.committed_len - self.trimmed) as usize]
     }
 
     /// Returns the number of committed places, including dropped ones.
@@ -384,7 +384,7 @@ impl<O: Object> Replica<O> {
     pub fn committed_len(&self) -> u64
         ensures { result ≡ (replica_known_log self.now).committed }
     {
-        self.committed
+        self.committed_len
     }
 
     /// Returns the number of committed places that have been dropped, which are those before the first of `committed`.
@@ -429,14 +429,14 @@ impl<O: Object> Replica<O> {
     pub fn order_len(&self) -> u64
         ensures { result ≡ effects_at O.sequential (replica_known_log self.now) (replica_known_log self.now).committed }
     {
-        self.effects
+        self.effect_count
     }
 }
 
 /// Returns whether `last` is the running ring.
 ///
 /// False if no ring runs.
-fn is_running_ring(running: &Option<RingId>, last: Option<RingId>) -> bool
+fn is_last_primary_running(running: &Option<RingId>, last: Option<RingId>) -> bool
     ensures { result ≡ is_running_some running.now last }
 {
     match (running, last) {
@@ -448,12 +448,12 @@ fn is_running_ring(running: &Option<RingId>, last: Option<RingId>) -> bool
 /// Copies the tickets and the log of the places that a step drops.
 fn copy_tickets<A: Allocator + Copy>(
     tickets: &Tickets<A>,
-    leaving: &Option<Log<A>>,
+    log_being_dropped: &Option<Log<A>>,
 ) -> Result<(Tickets<A>, Option<Log<A>>), AllocError>
     ensures tickets { IfOk result (λ copies. copies.0 ≡ tickets.now) }
-    ensures leaving { IfOk result (λ copies. copies.1 ≡ leaving.now) }
+    ensures log_being_dropped { IfOk result (λ copies. copies.1 ≡ log_being_dropped.now) }
 {
-    pair_result(tickets.clone()?, leaving.clone())
+    pair_result(tickets.clone()?, log_being_dropped.clone())
 }
 
 /// Copies the replication and the sessions.
@@ -471,17 +471,17 @@ fn copy_replication<O: Object>(
 }
 
 /// Takes out the calls of the places that a step drops; none if it drops no places.
-fn take_leaving<A: Allocator + Copy + Drop>(
+fn take_dropped_calls<A: Allocator + Copy + Drop>(
     alloc: A,
-    leaving: &mut Option<Log<A>>,
+    log_being_dropped: &mut Option<Log<A>>,
 ) -> Vec<Call<A>, A>
-    ensures calls { result.items ≡ calls_leaving leaving.old }
-    ensures taken { leaving.new ≡ None }
+    ensures calls { result.items ≡ calls_leaving log_being_dropped.old }
+    ensures taken { log_being_dropped.new ≡ None }
 {
-    if leaving.is_none() {
+    if log_being_dropped.is_none() {
         return Vec::new(alloc);
     }
-    match mem::replace(leaving, None) {
+    match mem::replace(log_being_dropped, None) {
         Some(log) => log.into_calls(),
         None => Vec::new(alloc),
     }
@@ -499,11 +499,11 @@ fn newly_committed_calls<A: Allocator + Copy>(log: &Log<A>, first: u64) -> &[Cal
 /// Returns the log that has the places committed now, including those that the unfinished step drops.
 fn current_log<'a, A: Allocator + Copy + Drop>(
     held: &'a HeldLog<A>,
-    leaving: &'a Option<Log<A>>,
+    log_being_dropped: &'a Option<Log<A>>,
 ) -> &'a Log<A>
-    ensures { result.now ≡ current_log held.now leaving.now }
+    ensures { result.now ≡ current_log held.now log_being_dropped.now }
 {
-    match leaving {
+    match log_being_dropped {
         Some(log) => log,
         None => held.log(),
     }
@@ -512,13 +512,13 @@ fn current_log<'a, A: Allocator + Copy + Drop>(
 /// Returns the log that has the places committed at the end of the last finished step.
 fn log_before_step<'a, A: Allocator + Copy + Drop>(
     held: &'a HeldLog<A>,
-    leaving: &'a Option<Log<A>>,
+    log_being_dropped: &'a Option<Log<A>>,
 ) -> &'a Log<A>
-    ensures { result.now ≡ log_before_step held.now leaving.now }
+    ensures { result.now ≡ log_before_step held.now log_being_dropped.now }
 {
     match held.log_before_restore() {
         Some(log) => log,
-        None => current_log(held, leaving),
+        None => current_log(held, log_being_dropped),
     }
 }
 
@@ -649,7 +649,7 @@ fn new_answers<O: Object>(
 
 /// Drops the committed places if they are due.
 ///
-/// `leaving`, which must be `None`, is then their log.
+/// `log_being_dropped`, which must be `None`, is then their log.
 ///
 /// Errors: `Memory` if an allocation fails; nothing is dropped.
 ///
@@ -658,16 +658,16 @@ fn trim_if_due<O: Object>(
     alloc: O::Alloc,
     replication: &mut Replication<O::Alloc>,
     sessions: &Sessions<O>,
-    leaving: &mut Option<Log<O::Alloc>>,
+    log_being_dropped: &mut Option<Log<O::Alloc>>,
 ) -> Result<(), Fault>
     requires consistent { replication.old.consistent ≡ true }
-    requires none { leaving.old ≡ None }
-    ensures dropped { OnOk result (leaving.new ≡ option_map (λ bytes. committed_log replication.old.held.log)
+    requires none { log_being_dropped.old ≡ None }
+    ensures dropped { OnOk result (log_being_dropped.new ≡ option_map (λ bytes. committed_log replication.old.held.log)
         (snapshot_if_due O.sequential (is_closed replication.old.group replication.old.epochs) replication.old.held.log sessions.now)) }
     ensures ok { OnOk result (replication.new
         ≡ replication_trimmed replication.old (snapshot_if_due O.sequential (is_closed replication.old.group replication.old.epochs) replication.old.held.log sessions.now)) }
     ensures err { OnErr result (replication.new ≡ replication.old) }
-    ensures stays { OnErr result (leaving.new ≡ None) }
+    ensures stays { OnErr result (log_being_dropped.new ≡ None) }
     ensures refused { IfErr result (λ fault. fault ≡ Memory) }
 {
     if !replication.stored_log().log().is_due_to_trim() {
@@ -675,7 +675,7 @@ fn trim_if_due<O: Object>(
     }
     let closed = replication.is_exchange_closed();
     let snapshot = snapshot_if_due(alloc, closed, replication.stored_log().log(), sessions)?;
-    *leaving = replication.trim(snapshot)?;
+    *log_being_dropped = replication.trim(snapshot)?;
     Ok(())
 }
 

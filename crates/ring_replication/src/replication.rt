@@ -170,11 +170,12 @@ impl<A: Allocator + Copy + Drop> Replication<A> {
 
     /// Applies the outputs of a core's step, in order, and appends to `due` the payloads to be handed to the core.
     ///
-    /// `running` is the ring in which the core is Operational after the step, or `None` in every other state. `pending`
-    /// has the node's unanswered tickets, and `committed` is the number of places that were committed before the step.
-    /// The log must be consistent, and no `Safe` may have a lower mark than the one before in its ring. Transitional
-    /// configurations, the rest of an old ring and frames change nothing. If an output makes the log inconsistent,
-    /// `is_consistent` is false afterwards, the later outputs are ignored, and the contents of `due` are unspecified.
+    /// `running_ring` is the ring in which the core is Operational after the step, or `None` in every other state.
+    /// `pending` has the node's unanswered tickets, and `committed_before` is the number of places that were committed
+    /// before the step. The log must be consistent, and no `Safe` may have a lower mark than the one before in its
+    /// ring. Transitional configurations, the rest of an old ring and frames change nothing. If an output makes the log
+    /// inconsistent, `is_consistent` is false afterwards, the later outputs are ignored, and the contents of `due` are
+    /// unspecified.
     ///
     /// Errors: `Memory` if an allocation fails; the places committed before the step are then unchanged, and all else
     /// is unspecified.
@@ -182,9 +183,9 @@ impl<A: Allocator + Copy + Drop> Replication<A> {
     /// Rules: The replicated log 1, 2, 7 and 10 to 12
     pub fn apply_outputs(
         &mut self,
-        running: &Option<RingId>,
+        running_ring: &Option<RingId>,
         pending: &[PendingTicket<A>],
-        committed: u64,
+        committed_before: u64,
         outs: &[Out<A>],
         due: &mut Vec<Payload<A>, A>,
     ) -> Result<(), Fault>
@@ -197,9 +198,9 @@ impl<A: Allocator + Copy + Drop> Replication<A> {
         ensures due { let moment : OneStepContext A = record {
           group = self.old.group;
           me = self.old.me;
-          running = running.now;
+          running = running_ring.now;
           pending = pending.now;
-          committed = committed;
+          committed = committed_before;
           trimmed = self.old.held.log.trimmed;
           snapshot = self.old.held.snapshot;
         } in
@@ -212,7 +213,7 @@ impl<A: Allocator + Copy + Drop> Replication<A> {
         ensures refused { IfErr result (λ fault. fault ≡ Memory) }
     {
         for out in outs {
-            self.apply_output_if_consistent(running, pending, committed, out, due)?;
+            self.apply_output_if_consistent(running_ring, pending, committed_before, out, due)?;
         }
         Ok(())
     }
@@ -220,9 +221,9 @@ impl<A: Allocator + Copy + Drop> Replication<A> {
     /// Applies one output, unless the log is already inconsistent.
     fn apply_output_if_consistent(
         &mut self,
-        running: &Option<RingId>,
+        running_ring: &Option<RingId>,
         pending: &[PendingTicket<A>],
-        committed: u64,
+        committed_before: u64,
         out: &Out<A>,
         due: &mut Vec<Payload<A>, A>,
     ) -> Result<(), Fault>
@@ -232,9 +233,9 @@ impl<A: Allocator + Copy + Drop> Replication<A> {
         ensures due { let moment : OneStepContext A = record {
           group = self.old.group;
           me = self.old.me;
-          running = running.now;
+          running = running_ring.now;
           pending = pending.now;
-          committed = committed;
+          committed = committed_before;
           trimmed = self.old.held.log.trimmed;
           snapshot = self.old.held.snapshot;
         } in
@@ -247,7 +248,7 @@ impl<A: Allocator + Copy + Drop> Replication<A> {
         ensures refused { IfErr result (λ fault. fault ≡ Memory) }
     {
         if self.is_consistent() {
-            self.apply_output(running, pending, committed, out, due)
+            self.apply_output(running_ring, pending, committed_before, out, due)
         } else {
             Ok(())
         }
@@ -257,9 +258,9 @@ impl<A: Allocator + Copy + Drop> Replication<A> {
     #[tactic(auto, using(crate::proofs::ReplicationSteps::goes_none))]
     fn apply_output(
         &mut self,
-        running: &Option<RingId>,
+        running_ring: &Option<RingId>,
         pending: &[PendingTicket<A>],
-        committed: u64,
+        committed_before: u64,
         out: &Out<A>,
         due: &mut Vec<Payload<A>, A>,
     ) -> Result<(), Fault>
@@ -272,9 +273,9 @@ impl<A: Allocator + Copy + Drop> Replication<A> {
         ensures due { let moment : OneStepContext A = record {
           group = self.old.group;
           me = self.old.me;
-          running = running.now;
+          running = running_ring.now;
           pending = pending.now;
-          committed = committed;
+          committed = committed_before;
           trimmed = self.old.held.log.trimmed;
           snapshot = self.old.held.snapshot;
         } in
@@ -288,8 +289,8 @@ impl<A: Allocator + Copy + Drop> Replication<A> {
     {
         match out {
             Out::Agreed(ring, _, message) => {
-                let runs = is_running_ring(running, ring);
-                self.apply_message_in_ring(runs, pending, committed, message, due)
+                let runs = is_running_ring(running_ring, ring);
+                self.apply_message_in_ring(runs, pending, committed_before, message, due)
             }
             Out::Safe(_, upto) => {
                 self.raise_safe_mark(*upto);
@@ -310,7 +311,7 @@ impl<A: Allocator + Copy + Drop> Replication<A> {
         &mut self,
         runs: bool,
         pending: &[PendingTicket<A>],
-        committed: u64,
+        committed_before: u64,
         message: &Message<A>,
         due: &mut Vec<Payload<A>, A>,
     ) -> Result<(), Fault>
@@ -322,7 +323,7 @@ impl<A: Allocator + Copy + Drop> Replication<A> {
           me = self.old.me;
           running = None;
           pending = pending.now;
-          committed = committed;
+          committed = committed_before;
           trimmed = self.old.held.log.trimmed;
           snapshot = self.old.held.snapshot;
         } in
@@ -340,7 +341,7 @@ impl<A: Allocator + Copy + Drop> Replication<A> {
             ring: self.ring,
             runs,
             me: self.me,
-            committed,
+            committed: committed_before,
         };
         let fits = apply_message(
             self.alloc,
@@ -420,16 +421,16 @@ impl<A: Allocator + Copy + Drop> Replication<A> {
         self.epochs = history_with_sends(&self.epochs, due);
     }
 
-    /// Records in the history, if `runs`, that the call is handed to the core.
+    /// Records in the history, if `is_handed_over`, that the call is handed to the core.
     ///
-    /// `runs` says whether the core is Operational in a ring that the node has adopted. Nothing else changes. Does not
-    /// allocate.
+    /// `is_handed_over` says whether the core is Operational in a ring that the node has adopted. Nothing else changes.
+    /// Does not allocate.
     ///
     /// Rules: The replicated log 10
-    pub fn record_call(&mut self, call: &Call<A>, runs: bool)
-        ensures { self.new ≡ record self.old { epochs = epochs_with_sends (handed_if runs call.now) self.old.epochs } }
+    pub fn record_call(&mut self, call: &Call<A>, is_handed_over: bool)
+        ensures { self.new ≡ record self.old { epochs = epochs_with_sends (handed_if is_handed_over call.now) self.old.epochs } }
     {
-        self.epochs = history_with_call(&self.epochs, call, runs);
+        self.epochs = history_with_call(&self.epochs, call, is_handed_over);
     }
 
     /// Drops the committed places, keeps `snapshot` for them, and returns a log of only the dropped places.

@@ -6,7 +6,7 @@ use Rattle.ring_payload.specs.declared.call.Call.{Call}
 use Rattle.ring_session.specs.declared.answer.Answer.{Answer}
 use Rattle.ring_session.specs.declared.answer.Answer.TheVariants.{Done}
 use Rattle.ring_session.specs.Deduplicated.{deduplicated, IsCallAt}
-use Rattle.ring_session.specs.SessionAnswer.{decode_reply, call_reply, session_answer, IsReplyIn}
+use Rattle.ring_session.specs.SessionAnswer.{reply_of_answer, call_reply, session_answer, IsReplyIn}
 
 module _ {O : Type 0} (object : Sequential O) where
   -- The call at this place of the list has this reply.
@@ -14,7 +14,7 @@ module _ {O : Type 0} (object : Sequential O) where
     pub answer : Answer
     pub stands : IsCallAt calls p c
     pub told : session_answer object calls p ≡ Some answer
-    pub brings : decode_reply answer ≡ Some r
+    pub brings : reply_of_answer answer ≡ Some r
 
   -- Each call that takes effect has the answer `Done` at its place in the list, with the reply of the sequential
   -- object.

@@ -33,10 +33,10 @@ answer_after replies kept c =
     else refusal NumberGap
 
 -- Sessions 4: the reply in an answer, if the call took effect, now or before.
-abbrev pub decode_reply : Answer → Option (List ℕ)
-decode_reply (Done reply) = Some reply
-decode_reply (Kept reply) = Some reply
-decode_reply (Refused number) = None
+abbrev pub reply_of_answer : Answer → Option (List ℕ)
+reply_of_answer (Done reply) = Some reply
+reply_of_answer (Kept reply) = Some reply
+reply_of_answer (Refused number) = None
 
 -- Whether the call takes effect now.
 abbrev pub is_done : Answer → Bool

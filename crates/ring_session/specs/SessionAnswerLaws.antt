@@ -24,7 +24,7 @@ use Rattle.ring_session.specs.Deduplicated.{count_of, may_call, takes_effect, de
 use Rattle.ring_session.specs.DeduplicatedLaws.{count_of-take, deduplicated-push}
 use Rattle.ring_session.specs.DeduplicatedLaws.{deduplicated-front, deduplicated-numbered, takes_effect-number}
 use Rattle.ring_session.specs.DeduplicatedLaws.{numbered_once}
-use Rattle.ring_session.specs.SessionAnswer.{refusal, is_same, repeated_call_answer, answer_after, decode_reply, call_reply, session_answer, IsReplyIn}
+use Rattle.ring_session.specs.SessionAnswer.{refusal, is_same, repeated_call_answer, answer_after, reply_of_answer, call_reply, session_answer, IsReplyIn}
 
 -- ---- the sequential object's replies
 
@@ -139,7 +139,7 @@ session_answer-front {O} {A} object xs ys p c at front =
     ∙ sym (session_answer-at object xs p c at)
 
 replied_cases : (next room last old : Bool) (f : ℕ → List ℕ) (n : ℕ) (o : Option ℕ) (r : List ℕ)
-    → decode_reply (if next then (if room then Done (f n) else refusal SessionsFull) else if last then repeated_call_answer f
+    → reply_of_answer (if next then (if room then Done (f n) else refusal SessionsFull) else if last then repeated_call_answer f
     o else if old then refusal Stale else refusal NumberGap) ≡ Some r
     → ((next && room ≡ true) × (f n ≡ r)) ⊎ ((q : ℕ) × (o ≡ Some q) × (f q ≡ r))
 replied_cases true true last old f n o r e = inl (refl, cc e)
@@ -151,13 +151,13 @@ replied_cases false room false false f n o r e = absurd (cc e)
 
 -- A reply is the sequential object's reply at a place where the call takes effect.
 pub answered : {O A : Type 0} (object : Sequential O) (calls : List (Call A)) (p : ℕ) (c : Call A) (a : Answer) (r : List ℕ) → IsCallAt calls p c
-    → session_answer object calls p ≡ Some a → decode_reply a ≡ Some r → IsReplyIn object (deduplicated calls) c r
+    → session_answer object calls p ≡ Some a → reply_of_answer a ≡ Some r → IsReplyIn object (deduplicated calls) c r
 answered {O} {A} object calls p c a r at answer is =
     let kept = deduplicated (take p calls) in
     let replies : ℕ → List ℕ = call_reply object (deduplicated calls) in
     let told : Some (answer_after replies kept c) ≡ Some a = sym (session_answer-at object calls p c at) ∙ answer in
     let same : answer_after replies kept c ≡ a = cc told in
-    let brings : decode_reply (answer_after replies kept c) ≡ Some r = ap decode_reply same ∙ is in
+    let brings : reply_of_answer (answer_after replies kept c) ≡ Some r = ap reply_of_answer same ∙ is in
     elim (replied_cases (c.number == count_of c.client kept + 1) (may_call kept c.client)
     (c.number == count_of c.client kept) (nat_lt c.number (count_of c.client kept)) replies (length kept)
     (position (is_same c) kept) r brings) [
@@ -167,7 +167,7 @@ answered {O} {A} object calls p c a r at answer is =
 
 -- A call with a reply has a number of at least 1.
 pub answered-number : {O A : Type 0} (object : Sequential O) (calls : List (Call A)) (p : ℕ) (c : Call A) (a : Answer) (r : List ℕ) → IsCallAt calls p c
-    → session_answer object calls p ≡ Some a → decode_reply a ≡ Some r → 1 ≤ c.number
+    → session_answer object calls p ≡ Some a → reply_of_answer a ≡ Some r → 1 ≤ c.number
 answered-number object calls p c a r at answer is =
     let there = answered object calls p c a r at answer is in
     omega (arith, deduplicated-numbered calls there.0 c there.1)

@@ -7,7 +7,7 @@ ghost use Rattle.ring_base.specs.declared.fault.Fault.TheVariants.{Memory, Sessi
 ghost use Rattle.ring_payload.specs.declared.call.Call.{Call};
 ghost use Rattle.ring_object.specs.Snapshots.{IsSnapshotRefusal};
 ghost use Rattle.ring_session.specs.Deduplicated.{max_clients};
-ghost use Rattle.ring_session.specs.SessionAnswer.{refusal, decode_reply, session_answer};
+ghost use Rattle.ring_session.specs.SessionAnswer.{refusal, reply_of_answer, session_answer};
 ghost use Rattle.ring_session.specs.Snapshots.{table_snapshot, restored_table};
 ghost use Rattle.ring_session.specs.TicketEffects.{numbers_in, table_effects};
 ghost use Rattle.ring_session.specs.Table.{opening, session_of, table_answer, table_next, table_after};
@@ -85,7 +85,7 @@ impl<O: Object> Sessions<O> {
             → IfOk result (λ answer. session_answer O.sequential (calls ++ call.now ∷ []) (length calls) ≡ Some answer) }
 
         // A call of number 0 has no reply, and `SessionsFull` comes only with exactly `max_clients` known clients.
-        ensures replied_from_one { IfOk result (λ answer. IsSome (decode_reply answer) → 1 ≤ call.now.number) }
+        ensures replied_from_one { IfOk result (λ answer. IsSome (reply_of_answer answer) → 1 ≤ call.now.number) }
         ensures full_only_at_limit { IfOk result (λ answer. answer ≡ refusal SessionsFull → length self.old.sessions ≡ max_clients) }
     {
         match self.sessions.get_mut(&call.client) {

@@ -30,7 +30,7 @@ use Rattle.ring_core_spec.specs.Joining.{gather_entered, join_effect_at, is_gath
 use Rattle.ring_core_spec.specs.CommitSteps.{takes_first_round, takes_second_round, takes_start}
 use Rattle.ring_core_spec.specs.Deciding.{Ignore, Enqueue, Take, Visit, Fill, Learn, is_taken, decide_message, decide_token}
 use Rattle.ring_core_spec.specs.Deciding.{transition_in_gather, transition_into_gather, decide_join_elsewhere, decide_join, decide_round}
-use Rattle.ring_core_spec.specs.Deciding.{decide_commit, decide_frame, decide_if_named, decide_time, decide_in_operational}
+use Rattle.ring_core_spec.specs.Deciding.{decide_commit, decide_frame, decide_if_named, decide_timeout, decide_in_operational}
 use Rattle.ring_core_spec.specs.Deciding.{decide_payload, decide}
 use Rattle.ring_srp_transitions.specs.Allowing.{MayApply, InputFits, TokenGoes, VisitAllowed}
 use Rattle.ring_srp_transitions.specs.RunningCores.{is_running}
@@ -110,7 +110,7 @@ in_named : {A : Type 0} (b : Bool) (c : Core A) (frame : Frame A) → FrameFits 
 in_named true c frame f = in_frame c frame f
 in_named false c frame f = tt
 
-in_time : {A : Type 0} (c : Core A) (s : State) (kind : Kind) → c.state ≡ s → MayApply c (decide_time s kind)
+in_time : {A : Type 0} (c : Core A) (s : State) (kind : Kind) → c.state ≡ s → MayApply c (decide_timeout s kind)
 in_time c Stopped kind h = tt
 in_time c Gather Retransmit h = tt
 in_time c Gather Loss h = tt

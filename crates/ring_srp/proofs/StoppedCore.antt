@@ -14,7 +14,7 @@ use Rattle.ring_core_spec.specs.State.{Core, halted, is_stopped}
 use Rattle.ring_core_spec.specs.Naming.{is_named}
 use Rattle.ring_core_spec.specs.Views.{takes_number}
 use Rattle.ring_core_spec.specs.Deciding.{Transition, Ignore, Take, takes_of, members_of, decide_token, decide_join, decide_round, decide_if_named}
-use Rattle.ring_core_spec.specs.Deciding.{decide_time, decide_payload, decide}
+use Rattle.ring_core_spec.specs.Deciding.{decide_timeout, decide_payload, decide}
 use Rattle.ring_core_spec.specs.Giving.{installs_in}
 use Rattle.ring_core_spec.specs.Stepping.{ring_step}
 use Rattle.ring_core_spec.proofs.States.{stopped_state}
@@ -32,7 +32,7 @@ decides_frame {A} true c (CommitFrame k) e =
 
 decides_nothing : {A : Type 0} (c : Core A) (input : Input A) → c.state ≡ Stopped → decide c input ≡ Ignore
 decides_nothing c (FrameInput frame) e = decides_frame (is_named c.total frame) c frame e
-decides_nothing {A} c (Timeout kind) e = ap (λ s. decide_time {A = A} s kind) e
+decides_nothing {A} c (Timeout kind) e = ap (λ s. decide_timeout {A = A} s kind) e
 decides_nothing c (Send payload) e = ap (λ s. decide_payload s payload) e
 
 pub stopped_step : {A : Type 0} (c : Core A) (input : Input A) → is_stopped c.state ≡ true → GaveNothing (ring_step c input) c

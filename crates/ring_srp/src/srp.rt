@@ -17,7 +17,7 @@ ghost use Rattle.ring_core_spec.specs.Tokens.{first_token};
 ghost use Rattle.ring_srp.specs.Given.{IsGiven};
 
 use crate::stepping::{
-    enqueue_if_operational, receive, step, step_into_one_list, visit_first_token,
+    enqueue_if_operational, step, step_into_one_list, step_on_frame, visit_first_token,
 };
 use ring_base::{Fault, Fixed, Ghost, Kind, Proc, RingId, State, ghost_now, pair_result};
 use ring_core_spec::{Configuration, Input, Out, OutgoingFrame};
@@ -169,7 +169,7 @@ impl<A: Allocator + Copy> Srp<A> {
         };
         let last = running_core.installed();
         let before = ghost_now(running_core);
-        match receive(running_core, frame, sends) {
+        match step_on_frame(running_core, frame, sends) {
             Ok(told) => Ok(told),
             Err(refused) => {
                 drop_value(&mut self.running_core);

@@ -55,7 +55,7 @@ pub(crate) fn step<A: Allocator + Copy>(
     let chosen_transition = running_core.decide(input);
     apply_and_propose(running_core, chosen_transition, sends)?;
     let other_outputs = running_core.empty_list();
-    give_outputs(running_core, before, other_outputs)
+    deliver_and_install(running_core, before, other_outputs)
 }
 
 /// Runs one step on an input, and returns all its outputs in one list, in their order.
@@ -77,7 +77,7 @@ pub(crate) fn step_into_one_list<A: Allocator + Copy>(
 {
     let mut sends = running_core.empty_list();
     let other_outputs = step(running_core, input, &mut sends)?;
-    join_outputs(sends, other_outputs)
+    concatenate_outputs(sends, other_outputs)
 }
 
 /// Runs one step on a borrowed frame.
@@ -88,7 +88,7 @@ pub(crate) fn step_into_one_list<A: Allocator + Copy>(
 /// Errors: `Memory` if an allocation fails; the core and the contents of `sends` are then unspecified.
 ///
 /// Rules: Rings and states 13; Outputs 1
-pub(crate) fn receive<A: Allocator + Copy>(
+pub(crate) fn step_on_frame<A: Allocator + Copy>(
     running_core: &mut RunningCore<A>,
     frame: &Frame<A>,
     sends: &mut Vec<OutgoingFrame<A>, A>,
@@ -159,7 +159,7 @@ fn step_with_message<A: Allocator + Copy>(
     let before = running_core.ring_progress();
     take_and_propose(running_core, message, sends)?;
     let other_outputs = running_core.empty_list();
-    give_outputs(running_core, before, other_outputs)
+    deliver_and_install(running_core, before, other_outputs)
 }
 
 /// Takes a message, and then proposes a ring if one is due.
@@ -211,7 +211,7 @@ fn step_with_token<A: Allocator + Copy>(
     let other_outputs = running_core.visit_output_buffer()?;
     let before = running_core.ring_progress();
     visit_and_propose(running_core, token, sends)?;
-    give_outputs(running_core, before, other_outputs)
+    deliver_and_install(running_core, before, other_outputs)
 }
 
 /// Visits a token, and then proposes a ring if one is due.
@@ -246,19 +246,19 @@ pub(crate) fn visit_first_token<A: Allocator + Copy>(
     let token = first_token(formed_ring(fixed).ring);
     let mut sends = running_core.empty_list();
     running_core.visit(&token, &mut sends)?;
-    join_outputs(sends, running_core.empty_list())
+    concatenate_outputs(sends, running_core.empty_list())
 }
 
-/// Appends the outputs after a transition to `other_outputs`, which must be empty, and returns it.
+/// Appends the outputs after a transition to `output_buffer`, which must be empty, and returns it.
 ///
 /// These are what is newly agreed and safe of the ring that was installed before the transition, and the outputs of an
 /// installation.
-fn give_outputs<A: Allocator + Copy>(
+fn deliver_and_install<A: Allocator + Copy>(
     running_core: &mut RunningCore<A>,
     before: RingProgress,
-    mut other_outputs: Vec<Out<A>, A>,
+    mut output_buffer: Vec<Out<A>, A>,
 ) -> Result<Vec<Out<A>, A>, Fault>
-    requires empty { other_outputs.items ≡ [] }
+    requires empty { output_buffer.items ≡ [] }
     requires ring { before.ring ≡ running_core.old.installed.ring }
     requires mark { mark running_core.old running_core.old.installed.ring ≤ before.front }
     ensures told { IfOk result (λ told. told.items ≡ delivered_from running_core.old before.ring before.front before.mark ++
@@ -266,13 +266,13 @@ fn give_outputs<A: Allocator + Copy>(
     ensures core { OnOk result (running_core.new ≡ (with_installation_if (may_install running_core.old) running_core.old []).core) }
     ensures refused { IfErr result (λ fault. fault ≡ Memory) }
 {
-    running_core.give_ring_outputs(before, &mut other_outputs)?;
-    running_core.install_if_due(&mut other_outputs)?;
-    Ok(other_outputs)
+    running_core.give_ring_outputs(before, &mut output_buffer)?;
+    running_core.install_if_due(&mut output_buffer)?;
+    Ok(output_buffer)
 }
 
 /// Returns all outputs of a step in one list: the frames to be sent, then the others.
-fn join_outputs<A: Allocator + Copy>(
+fn concatenate_outputs<A: Allocator + Copy>(
     sends: Vec<OutgoingFrame<A>, A>,
     mut other_outputs: Vec<Out<A>, A>,
 ) -> Result<Vec<Out<A>, A>, Fault>
@@ -327,9 +327,9 @@ fn apply_and_propose<A: Allocator + Copy>(
     ensures sends { OnOk result (sends.new.items ≡ sends.old.items ++ sends_with_receivers (transition_and_proposal running_core.old (transition_of chosen_transition)).sends) }
     ensures refused { IfErr result (λ fault. fault ≡ Memory) }
 {
-    let follows = may_propose_after(&chosen_transition);
+    let may_propose = may_propose_after(&chosen_transition);
     apply_transition(running_core, chosen_transition, sends)?;
-    if follows {
+    if may_propose {
         running_core.propose_if_due(sends)
     } else {
         Ok(())

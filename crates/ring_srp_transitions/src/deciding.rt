@@ -8,7 +8,7 @@ ghost use Rattle.ring_payload.specs.Packing.{is_queued};
 ghost use Rattle.ring_token.specs.TokenVisits.{first_token};
 ghost use Rattle.ring_srp_transitions.specs.CodeTransitions.{transition_of};
 ghost use Rattle.ring_core_spec.specs.Deciding.{decide, decide_frame, decide_token, decide_join, decide_commit};
-ghost use Rattle.ring_core_spec.specs.Deciding.{decide_round, decide_time, decide_payload, decide_in_operational, transition_in_gather};
+ghost use Rattle.ring_core_spec.specs.Deciding.{decide_round, decide_timeout, decide_payload, decide_in_operational, transition_in_gather};
 ghost use Rattle.ring_core_spec.specs.Deciding.{transition_into_gather, decide_join_elsewhere, is_taken};
 ghost use Rattle.ring_core_spec.specs.Deciding.{Take as TakeAct, Visit as VisitAct, Ignore as IgnoreAct};
 ghost use Rattle.ring_core_spec.specs.declared.input.Input.TheVariants.{Frame as FrameInput};
@@ -50,7 +50,7 @@ impl<A: Allocator + Copy> RunningCore<A> {
                     Transition::Ignore
                 }
             }
-            Input::Timeout(kind) => self.decide_time(kind),
+            Input::Timeout(kind) => self.decide_timeout(kind),
             Input::Send(payload) => self.decide_payload(payload),
         }
     }
@@ -256,8 +256,8 @@ impl<A: Allocator + Copy> RunningCore<A> {
         is_start(&self.newest_ring, token) && self.accepts_token(&first_token(token.ring))
     }
 
-    fn decide_time(&self, kind: Kind) -> Transition<A>
-        ensures { transition_of result ≡ decide_time self.now.state kind }
+    fn decide_timeout(&self, kind: Kind) -> Transition<A>
+        ensures { transition_of result ≡ decide_timeout self.now.state kind }
     {
         match (self.state, kind) {
             (State::Stopped, _) => Transition::Ignore,

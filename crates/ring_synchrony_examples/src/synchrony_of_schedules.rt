@@ -18,7 +18,7 @@ ghost use Rattle.ring_synchrony_proof.specs.Tests.{is_virtually_synchronous};
 /// States that the schedule of one processor is virtually synchronous. Its calls are packed in a ring of one.
 ///
 /// Rules: Outputs 11
-pub fn lives_of_one()
+pub fn schedule_of_one_is_synchronous()
     ensures { is_virtually_synchronous world_of_one ≡ true }
 {}
 
@@ -27,7 +27,7 @@ pub fn lives_of_one()
 /// The rest of an old ring has a Pack and a Part.
 ///
 /// Rules: Outputs 5 and 11
-pub fn lives_of_two_rest()
+pub fn schedule_of_two_rest_is_synchronous()
     ensures { is_virtually_synchronous world_of_two_rest ≡ true }
 {}
 
@@ -37,7 +37,7 @@ pub fn lives_of_two_rest()
 /// The join has other sets than the node.
 ///
 /// Rules: Gather 13; Outputs 11
-pub fn lives_of_two_gather()
+pub fn schedule_of_two_gather_is_synchronous()
     ensures { is_virtually_synchronous world_of_two_gather ≡ true }
 {}
 
@@ -46,14 +46,14 @@ pub fn lives_of_two_gather()
 /// Two recoveries break off after calls were wrapped.
 ///
 /// Rules: Recovery 10; Outputs 11
-pub fn lives_of_three_broken()
+pub fn schedule_of_three_broken_is_synchronous()
     ensures { is_virtually_synchronous world_of_three_broken ≡ true }
 {}
 
 /// States that a schedule of three processors, two of which stop, is virtually synchronous.
 ///
 /// Rules: Rings and states 12; Outputs 11
-pub fn lives_of_three_stops()
+pub fn schedule_of_three_stops_is_synchronous()
     ensures { is_virtually_synchronous world_of_three_stops ≡ true }
 {}
 
@@ -62,7 +62,7 @@ pub fn lives_of_three_stops()
 /// Past the gap, only the messages that transitional members sent are delivered.
 ///
 /// Rules: Recovery 9; Outputs 11
-pub fn lives_of_four_gap()
+pub fn schedule_of_four_gap_is_synchronous()
     ensures { is_virtually_synchronous world_of_four_gap ≡ true }
 {}
 
@@ -71,7 +71,7 @@ pub fn lives_of_four_gap()
 /// A message that an outsider sent past a gap is discarded, and one processor stops.
 ///
 /// Rules: Recovery 4 and 9; Outputs 11
-pub fn lives_of_four_packs()
+pub fn schedule_of_four_packs_is_synchronous()
     ensures { is_virtually_synchronous world_of_four_packs ≡ true }
 {}
 
@@ -80,14 +80,14 @@ pub fn lives_of_four_packs()
 /// Recoveries break off after a Pack was wrapped.
 ///
 /// Rules: Recovery 10; Outputs 11
-pub fn lives_of_four_broken()
+pub fn schedule_of_four_broken_is_synchronous()
     ensures { is_virtually_synchronous world_of_four_broken ≡ true }
 {}
 
 /// States that a schedule of five processors, with a ring under load, is virtually synchronous.
 ///
 /// Rules: Outputs 11
-pub fn lives_of_five()
+pub fn schedule_of_five_is_synchronous()
     ensures { is_virtually_synchronous world_of_five ≡ true }
 {}
 
@@ -96,6 +96,6 @@ pub fn lives_of_five()
 /// They send joins with many different sets before their rings form.
 ///
 /// Rules: Gather 3 to 5; Outputs 11
-pub fn lives_of_six()
+pub fn schedule_of_six_is_synchronous()
     ensures { is_virtually_synchronous world_of_six ≡ true }
 {}

@@ -15,9 +15,9 @@ abbrev pub list_encoding : ℕ → List ℕ → List ℕ
 list_encoding width numbers = flat_map (λ number. big_bytes width number) numbers
 
 -- The first `count` numbers of the bytes.
-unfoldable pub member_numbers : ℕ → ℕ → List ℕ → List ℕ
-member_numbers width zero bytes = []
-member_numbers width (suc count) bytes = big_number width bytes ∷ member_numbers width count (drop width bytes)
+unfoldable pub numbers_from_bytes : ℕ → ℕ → List ℕ → List ℕ
+numbers_from_bytes width zero bytes = []
+numbers_from_bytes width (suc count) bytes = big_number width bytes ∷ numbers_from_bytes width count (drop width bytes)
 
 -- The numbers fit the width.
 abbrev pub AreNumbers : ℕ → List ℕ → Type 0
@@ -64,42 +64,42 @@ length-list_encoding width (x ∷ xs) =
     ) (omega arith)
 
 -- `count` numbers are decoded.
-pub length-member_numbers : (width count : ℕ) (bytes : List ℕ) → length (member_numbers width count bytes) ≡ count
-unfolding member_numbers
-length-member_numbers width zero bytes = refl
-length-member_numbers width (suc count) bytes = ap suc (length-member_numbers width count (drop width bytes))
+pub length-numbers_from_bytes : (width count : ℕ) (bytes : List ℕ) → length (numbers_from_bytes width count bytes) ≡ count
+unfolding numbers_from_bytes
+length-numbers_from_bytes width zero bytes = refl
+length-numbers_from_bytes width (suc count) bytes = ap suc (length-numbers_from_bytes width count (drop width bytes))
 
 -- Decoded numbers fit the width.
-pub AreNumbers-member_numbers : (width count : ℕ) (bytes : List ℕ) → AreBytes bytes → AreNumbers width (member_numbers width count bytes)
-unfolding member_numbers
-AreNumbers-member_numbers width zero bytes are = All-nil (λ number. number < 256 ^ width)
-AreNumbers-member_numbers width (suc count) bytes are =
-    All-cons (λ number. number < 256 ^ width) (big_number width bytes) (member_numbers width count (drop width bytes)) (big_number-lt width bytes are)
-    (AreNumbers-member_numbers width count (drop width bytes) (All-drop (λ byte. byte < 256) width bytes are))
+pub AreNumbers-numbers_from_bytes : (width count : ℕ) (bytes : List ℕ) → AreBytes bytes → AreNumbers width (numbers_from_bytes width count bytes)
+unfolding numbers_from_bytes
+AreNumbers-numbers_from_bytes width zero bytes are = All-nil (λ number. number < 256 ^ width)
+AreNumbers-numbers_from_bytes width (suc count) bytes are =
+    All-cons (λ number. number < 256 ^ width) (big_number width bytes) (numbers_from_bytes width count (drop width bytes)) (big_number-lt width bytes are)
+    (AreNumbers-numbers_from_bytes width count (drop width bytes) (All-drop (λ byte. byte < 256) width bytes are))
 
 -- Encoded numbers are decoded to themselves.
-pub member_numbers-list_encoding : (width : ℕ) (numbers : List ℕ) → AreNumbers width numbers → member_numbers width (length numbers) (list_encoding width numbers) ≡ numbers
-unfolding member_numbers
-member_numbers-list_encoding width [] are = refl
-member_numbers-list_encoding width (x ∷ xs) are =
+pub numbers_from_bytes-list_encoding : (width : ℕ) (numbers : List ℕ) → AreNumbers width numbers → numbers_from_bytes width (length numbers) (list_encoding width numbers) ≡ numbers
+unfolding numbers_from_bytes
+numbers_from_bytes-list_encoding width [] are = refl
+numbers_from_bytes-list_encoding width (x ∷ xs) are =
     let rest : drop width (big_bytes width x ++ list_encoding width xs) ≡ list_encoding width xs = drop_at (big_bytes width x)
     (list_encoding width xs) width (length-bytes_high_first width x) in
     let first : big_number width (big_bytes width x ++ list_encoding width xs) ≡ x = big_number-reads_back width x
     (list_encoding width xs) (All-head (λ number. number < 256 ^ width) x xs are) in
-    let others : member_numbers width (length xs) (list_encoding width xs) ≡ xs = member_numbers-list_encoding width xs (All-tail (λ number. number < 256 ^ width) x xs are) in
+    let others : numbers_from_bytes width (length xs) (list_encoding width xs) ≡ xs = numbers_from_bytes-list_encoding width xs (All-tail (λ number. number < 256 ^ width) x xs are) in
     rw (flat_map-cons (λ number. big_bytes width number) x xs, first, rest, others) refl
 
 -- Decoded numbers are encoded to the bytes.
-pub list_encoding-member_numbers : (width : ℕ) → IsExact width → (count : ℕ) (bytes : List ℕ) → length bytes ≡ width * count
-    → AreBytes bytes → list_encoding width (member_numbers width count bytes) ≡ bytes
-unfolding member_numbers
-list_encoding-member_numbers width exact zero bytes len are = sym (nil_from_length bytes (omega arith))
-list_encoding-member_numbers width exact (suc count) bytes len are =
-    let others = list_encoding-member_numbers width exact count (drop width bytes) (omega (arith, length-drop width bytes))
+pub list_encoding-numbers_from_bytes : (width : ℕ) → IsExact width → (count : ℕ) (bytes : List ℕ) → length bytes ≡ width * count
+    → AreBytes bytes → list_encoding width (numbers_from_bytes width count bytes) ≡ bytes
+unfolding numbers_from_bytes
+list_encoding-numbers_from_bytes width exact zero bytes len are = sym (nil_from_length bytes (omega arith))
+list_encoding-numbers_from_bytes width exact (suc count) bytes len are =
+    let others = list_encoding-numbers_from_bytes width exact count (drop width bytes) (omega (arith, length-drop width bytes))
     (All-drop (λ byte. byte < 256) width bytes are) in
     rw (
       flat_map-cons (λ number. big_bytes width number) (big_number width bytes)
-          (member_numbers width count (drop width bytes)),
+          (numbers_from_bytes width count (drop width bytes)),
       others,
     ) (big_bytes-big_number width exact bytes (omega arith) are)
 

@@ -4,7 +4,7 @@
 use Rattle.std.specs.Prelude.{ℕ, ◌*◌, ◌≤◌, Bool, ◌==◌, nat_le, ◌&&◌, if◌then◌else◌, List, [], ◌∷◌, ◌++◌, length, drop, Option, Some, None, is_some}
 use Rattle.byteorder.specs.Endian.{big_bytes, big_number}
 use Rattle.ring_object.specs.Operations.{unreadable_reply}
-use Rattle.ring_things.specs.Numbers.{list_encoding, member_numbers, AreNumbers}
+use Rattle.ring_things.specs.Numbers.{list_encoding, numbers_from_bytes, AreNumbers}
 use Rattle.ring_things.specs.declared.queue.QueueOperation.{QueueOperation}
 use Rattle.ring_things.specs.declared.queue.QueueOperation.TheVariants.{Push, Pop, Count}
 
@@ -71,4 +71,4 @@ is_snapshot bytes = nat_le 2 (length bytes) && (nat_le (big_number 2 bytes) max_
 
 -- The values whose snapshot is the bytes, if they are one.
 abbrev pub queue_of : List ℕ → Option (List ℕ)
-queue_of bytes = if is_snapshot bytes then Some (member_numbers 8 (big_number 2 bytes) (drop 2 bytes)) else None
+queue_of bytes = if is_snapshot bytes then Some (numbers_from_bytes 8 (big_number 2 bytes) (drop 2 bytes)) else None

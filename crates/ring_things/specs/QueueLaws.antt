@@ -12,9 +12,9 @@ use Rattle.ring_object.specs.Bytes.{AreBytes}
 use Rattle.ring_object.specs.Operations.{IsReply, unreadable_reply}
 use Rattle.ring_object.specs.Snapshots.{HasExactSnapshots}
 use Rattle.ring_base.proofs.Cases.{guarded_some}
-use Rattle.ring_things.specs.Numbers.{list_encoding, member_numbers, big_number-lt, exact_2, exact_8, sized_text-split, sized_text-join}
-use Rattle.ring_things.specs.Numbers.{length-list_encoding, length-member_numbers, AreNumbers-member_numbers, member_numbers-list_encoding}
-use Rattle.ring_things.specs.Numbers.{list_encoding-member_numbers}
+use Rattle.ring_things.specs.Numbers.{list_encoding, numbers_from_bytes, big_number-lt, exact_2, exact_8, sized_text-split, sized_text-join}
+use Rattle.ring_things.specs.Numbers.{length-list_encoding, length-numbers_from_bytes, AreNumbers-numbers_from_bytes, numbers_from_bytes-list_encoding}
+use Rattle.ring_things.specs.Numbers.{list_encoding-numbers_from_bytes}
 use Rattle.ring_things.specs.ReplyBytes.{code_fits, code_and_value_fits, AreBytes-rest, AreBytes-drop}
 use Rattle.ring_things.specs.Queue.{max_queue_values, IsQueue, decoding, is_readable, reply, next, reply_to, after, snapshot_of, is_snapshot, queue_of}
 use Rattle.ring_things.specs.declared.queue.QueueOperation.{QueueOperation}
@@ -69,8 +69,8 @@ pub ignored : (items op : List ℕ) → is_readable op ≡ false → (reply item
 ignored items op none = rw (none_of (decoding op) none) (refl, refl)
 
 -- Values decoded from a snapshot are a queue.
-pub IsQueue-member_numbers : (count : ℕ) (bytes : List ℕ) → count ≤ max_queue_values → AreBytes bytes → IsQueue (member_numbers 8 count bytes)
-IsQueue-member_numbers count bytes few are = record { few = omega (arith, length-member_numbers 8 count bytes); numbers = AreNumbers-member_numbers 8 count bytes are }
+pub IsQueue-numbers_from_bytes : (count : ℕ) (bytes : List ℕ) → count ≤ max_queue_values → AreBytes bytes → IsQueue (numbers_from_bytes 8 count bytes)
+IsQueue-numbers_from_bytes count bytes few are = record { few = omega (arith, length-numbers_from_bytes 8 count bytes); numbers = AreNumbers-numbers_from_bytes 8 count bytes are }
 
 restored : (items : List ℕ) → IsQueue items → queue_of (snapshot_of items) ≡ Some items
 restored items is =
@@ -79,24 +79,24 @@ restored items is =
     let size : length (drop 2 (snapshot_of items)) ≡ 8 * big_number 2 (snapshot_of items) = rw (parts.0, parts.1) (length-list_encoding 8 items) in
     let few : big_number 2 (snapshot_of items) ≤ max_queue_values = rw parts.0 is.few in
     let holds : is_snapshot (snapshot_of items) ≡ true = and_from _ _ (le-leb _ _ long) (and_from _ _ (le-leb _ _ few) (eq-eqb _ _ size)) in
-    let whole : member_numbers 8 (big_number 2 (snapshot_of items)) (drop 2 (snapshot_of items)) ≡ items =
-    rw (parts.0, parts.1) (member_numbers-list_encoding 8 items is.numbers) in
+    let whole : numbers_from_bytes 8 (big_number 2 (snapshot_of items)) (drop 2 (snapshot_of items)) ≡ items =
+    rw (parts.0, parts.1) (numbers_from_bytes-list_encoding 8 items is.numbers) in
     cond-true (is_snapshot (snapshot_of items)) _ _ holds ∙ ap Some whole
 
 only : (bytes items : List ℕ) → AreBytes bytes → queue_of bytes ≡ Some items → IsQueue items × (snapshot_of items ≡ bytes)
 only bytes items are is =
     let count = big_number 2 bytes in
     let rest = drop 2 bytes in
-    let g = guarded_some (is_snapshot bytes) (Some (member_numbers 8 count rest)) items is in
+    let g = guarded_some (is_snapshot bytes) (Some (numbers_from_bytes 8 count rest)) items is in
     let a = and_parts (nat_le 2 (length bytes)) _ g.0 in
     let b = and_parts (nat_le count max_queue_values) _ a.1 in
-    let len : length (member_numbers 8 count rest) ≡ count = length-member_numbers 8 count rest in
-    let values : list_encoding 8 (member_numbers 8 count rest) ≡ rest = list_encoding-member_numbers 8 exact_8 count rest (eqb-true _ _ b.1) (AreBytes-drop 2 bytes are) in
+    let len : length (numbers_from_bytes 8 count rest) ≡ count = length-numbers_from_bytes 8 count rest in
+    let values : list_encoding 8 (numbers_from_bytes 8 count rest) ≡ rest = list_encoding-numbers_from_bytes 8 exact_8 count rest (eqb-true _ _ b.1) (AreBytes-drop 2 bytes are) in
     let P : List ℕ → Type 0 = λ xs. IsQueue xs × (snapshot_of xs ≡ bytes) in
     subst P (same_Some _ _ g.1) (
-      IsQueue-member_numbers count rest (leb-true _ _ b.0) (AreBytes-drop 2 bytes are),
-      sized_text-join 2 exact_2 bytes (leb-true _ _ a.0) are (length (member_numbers 8 count rest))
-          (list_encoding 8 (member_numbers 8 count rest)) len values,
+      IsQueue-numbers_from_bytes count rest (leb-true _ _ b.0) (AreBytes-drop 2 bytes are),
+      sized_text-join 2 exact_2 bytes (leb-true _ _ a.0) are (length (numbers_from_bytes 8 count rest))
+          (list_encoding 8 (numbers_from_bytes 8 count rest)) len values,
     )
 
 -- Exactly the snapshots of queues are restored, each to its queue.

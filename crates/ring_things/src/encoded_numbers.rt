@@ -1,7 +1,7 @@
 //! Lists of numbers of 8 bytes each, big-endian.
 
 ghost use Rattle.std.specs.Prelude.{◌≡◌, ◌+◌, ◌*◌, ◌≤◌, ◌++◌, length, IfOk, IfErr, vec_len, vec_capacity};
-ghost use Rattle.ring_things.specs.Numbers.{list_encoding, member_numbers};
+ghost use Rattle.ring_things.specs.Numbers.{list_encoding, numbers_from_bytes};
 
 use byteorder::{BigEndian, ByteOrder};
 use ring_base::Fault;
@@ -34,7 +34,7 @@ pub(crate) fn decode_numbers<A: Allocator + Copy + Drop>(
     bytes: &[u8],
 ) -> Result<Vec<u64, A>, Fault>
     requires { length bytes.now ≡ 8 * count }
-    ensures ok { IfOk result (λ numbers. numbers.items ≡ member_numbers 8 count bytes.now) }
+    ensures ok { IfOk result (λ numbers. numbers.items ≡ numbers_from_bytes 8 count bytes.now) }
     ensures refused { IfErr result (λ fault. fault ≡ Fault.Memory) }
 {
     let mut numbers = vec![in alloc; 0; count]?;

@@ -11,8 +11,8 @@ abbrev pub default_periods : Periods
 default_periods = record { join = 10; retransmit = 20; consensus = 100; loss = 300; positive = (lit≤ tt, lit≤ tt, lit≤ tt, lit≤ tt) }
 
 -- the periods for nodes that share a machine with other programs
-abbrev pub shared_periods : Periods
-shared_periods = record { join = 50; retransmit = 100; consensus = 500; loss = 1000; positive = (lit≤ tt, lit≤ tt, lit≤ tt, lit≤ tt) }
+abbrev pub shared_machine_periods : Periods
+shared_machine_periods = record { join = 50; retransmit = 100; consensus = 500; loss = 1000; positive = (lit≤ tt, lit≤ tt, lit≤ tt, lit≤ tt) }
 
 -- the period of a timeout
 abbrev pub period_of : Periods → Kind → ℕ

@@ -37,15 +37,15 @@ impl Default for Periods {
 }
 
 impl Periods {
-    ghost use Rattle.ring_timers.specs.Periods.{shared_periods, period_of};
+    ghost use Rattle.ring_timers.specs.Periods.{shared_machine_periods, period_of};
 
     /// Returns the periods for nodes that share a machine with other programs: 50, 100, 500 and 1,000 milliseconds.
     ///
     /// They are in the order join, retransmit, consensus, loss.
     ///
     /// Rules: A node with a clock 3
-    pub fn shared() -> Periods
-        ensures { result ≡ shared_periods }
+    pub fn for_shared_machine() -> Periods
+        ensures { result ≡ shared_machine_periods }
     {
         Periods {
             join: 50,

@@ -46,9 +46,9 @@ pub(crate) fn input_of_line<A: Allocator + Copy>(
 ///
 /// Formats: The command line
 pub(crate) fn input_of_turn(event_subject: &EventSubject) -> Option<InputValue> {
-    match event_subject.pair {
-        Some(pair) => {
-            let (frame, sender) = (pair.frame, pair.sender);
+    match event_subject.open_copy {
+        Some(open_copy) => {
+            let (frame, sender) = (open_copy.frame, open_copy.sender);
             Some(InputValue::of_turn(frame, sender))
         }
         None => None,

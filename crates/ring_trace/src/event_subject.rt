@@ -20,7 +20,7 @@ pub(crate) struct EventSubject {
     /// The input, as far as counts depend on it, if it is neither a frame nor a call.
     pub counted: Option<CountedInput>,
     /// The delivered copy, if the event is a turn of a pump.
-    pub pair: Option<OpenCopy>,
+    pub open_copy: Option<OpenCopy>,
     /// The submitted call, if the event is the line `call`.
     pub call: Option<WaitingCall>,
 }
@@ -61,7 +61,7 @@ pub(crate) fn event_subject_of<A: Allocator + Copy>(line: &ScriptLine<A>) -> Opt
         node,
         frame: given,
         counted,
-        pair: None,
+        open_copy: None,
         call: submitted,
     })
 }
@@ -109,8 +109,8 @@ pub(crate) fn write_event_description<A: Allocator + Copy>(
 /// Formats: The command line
 pub(crate) fn write_turn<A: Allocator + Copy>(
     what: &mut String<A>,
-    pair: OpenCopy,
+    open_copy: OpenCopy,
 ) -> Result<(), AllocError> {
-    let (node, frame, sender) = (pair.receiver, pair.frame, pair.sender);
+    let (node, frame, sender) = (open_copy.receiver, open_copy.frame, open_copy.sender);
     write!(what, "node {node} hears frame {frame} of node {sender}")
 }

@@ -38,7 +38,7 @@ use std::mem;
 pub(crate) struct Tracer<O: Object> {
     alloc: O::Alloc,
     run: ScriptRun<O>,
-    form: TracePrinter,
+    printer: TracePrinter,
     trace_vocabulary: TraceVocabulary,
     trace_picture: TracePicture<O::Alloc>,
     nodes: Fixed,
@@ -49,9 +49,9 @@ pub(crate) struct Tracer<O: Object> {
     /// The counts of each node's steps.
     counts: Vec<NodeCounts, O::Alloc>,
     /// The number of places that the snapshot replaces that the current event's step restores, if it restores one.
-    restored: Option<u64>,
+    restored_places: Option<u64>,
     sent: SentFrames<O::Alloc>,
-    queue: WaitingCalls<O::Alloc>,
+    waiting_calls: WaitingCalls<O::Alloc>,
     changes: Vec<Change, O::Alloc>,
     /// Whether the current event's node installed a ring in it.
     has_installed: bool,
@@ -65,26 +65,26 @@ pub(crate) struct Tracer<O: Object> {
     /// The input of the current event, unless it is a turn.
     input: Option<InputValue>,
     /// The length of the log of the event's node, if the event changed it.
-    log: Option<u64>,
+    changed_log_len: Option<u64>,
     /// The frames that the current event sent.
     ///
     /// It is empty in formats without details, as are the input and the turns.
     sends: Vec<SendValue>,
     /// The turns of the fold.
-    turns: Vec<TurnValue>,
+    fold_turns: Vec<TurnValue>,
 }
 
 impl<O: Object> Tracer<O> {
     /// Creates the trace of a script, with all nodes at their opening and nothing reported.
     ///
-    /// `form` has the format, and `selection` the events to report.
+    /// `printer` has the format, and `selection` the events to report.
     ///
     /// Errors: `Memory` if an allocation fails.
     ///
     /// Formats: The command line
     pub fn new(
         alloc: O::Alloc,
-        form: TracePrinter,
+        printer: TracePrinter,
         trace_vocabulary: TraceVocabulary,
         script: &Script<O::Alloc>,
         selection: Selection,
@@ -101,7 +101,7 @@ impl<O: Object> Tracer<O> {
         Ok(Tracer {
             alloc,
             run: ScriptRun::new(alloc, script.nodes)?,
-            form,
+            printer,
             trace_vocabulary,
             trace_picture: TracePicture::new(alloc, script.nodes, selection.node),
             nodes: script.nodes,
@@ -109,9 +109,9 @@ impl<O: Object> Tracer<O> {
             selection,
             node_views,
             counts,
-            restored: None,
+            restored_places: None,
             sent: SentFrames::new(alloc),
-            queue: WaitingCalls::new(alloc),
+            waiting_calls: WaitingCalls::new(alloc),
             changes: Vec::new(alloc),
             has_installed: false,
             handled_reports: 0,
@@ -119,9 +119,9 @@ impl<O: Object> Tracer<O> {
             fold: Fold::new(),
             event_description: String::new(alloc),
             input: None,
-            log: None,
-            sends: Vec::new(form.alloc),
-            turns: Vec::new(form.alloc),
+            changed_log_len: None,
+            sends: Vec::new(printer.alloc),
+            fold_turns: Vec::new(printer.alloc),
         })
     }
 
@@ -147,7 +147,7 @@ impl<O: Object> Tracer<O> {
         ensures sends { OnOk result (Appends (F.contents frames.old) (F.contents frames.new)
             (text_of (world_of O.sequential self.new.run.world_view).frames)) }
     {
-        self.form.print_opening(out, self.nodes)?;
+        self.printer.print_opening(out, self.nodes)?;
         self.trace_lines(script, out)?;
         self.print_fold_end(out)?;
         *fault = self.selection.fault_after_events(self.events);
@@ -200,8 +200,8 @@ impl<O: Object> Tracer<O> {
         self.print_fold_end(out)?;
         self.sides = sides_of(self.alloc, self.run.world().fixed(), groups)?;
         if self.selection.selects_event(self.events, None) {
-            self.form.print_cut(out, self.sides.as_slice())?;
-            if self.form.format.has_picture() {
+            self.printer.print_cut(out, self.sides.as_slice())?;
+            if self.printer.format.has_picture() {
                 self.trace_picture
                     .add_cut(self.events, self.sides.as_slice())?;
             }
@@ -218,8 +218,8 @@ impl<O: Object> Tracer<O> {
         self.sides.clear();
         self.print_fold_end(out)?;
         if self.selection.selects_event(self.events, None) {
-            self.form.print_heal(out)?;
-            if self.form.format.has_picture() {
+            self.printer.print_heal(out)?;
+            if self.printer.format.has_picture() {
                 self.draw_heal(is_cut)?;
             }
         }
@@ -248,7 +248,7 @@ impl<O: Object> Tracer<O> {
         ensures { OnOk result (IsLineDone O.sequential line self.old.run self.new.run) }
     {
         let event_subject = event_subject_of(&line);
-        let kind = self.kind_of(&event_subject);
+        let kind = self.delivery_kind_of(&event_subject);
         self.store_description(&line, kind)?;
         self.foresee_line(&event_subject)?;
         self.run.run_line_silently(line)?;
@@ -259,7 +259,7 @@ impl<O: Object> Tracer<O> {
     }
 
     /// Returns the kind of delivery of an event's frame by a line `deliver`.
-    fn kind_of(&self, event_subject: &Option<EventSubject>) -> DeliveryKind {
+    fn delivery_kind_of(&self, event_subject: &Option<EventSubject>) -> DeliveryKind {
         match event_subject {
             Some(event_subject) => {
                 self.sent
@@ -284,8 +284,8 @@ impl<O: Object> Tracer<O> {
             line,
             kind,
         )?;
-        if self.form.format.has_details() {
-            self.input = input_of_line(self.form.alloc, &self.trace_vocabulary, line, kind)?;
+        if self.printer.format.has_details() {
+            self.input = input_of_line(self.printer.alloc, &self.trace_vocabulary, line, kind)?;
         }
         Ok(())
     }
@@ -295,13 +295,13 @@ impl<O: Object> Tracer<O> {
         ensures { OnOk result (IsPumpDone O.sequential turns self.old.run self.new.run) }
     {
         for _ in 0..turns {
-            let Some(pair) = self.run.first_open_copy() else {
+            let Some(open_copy) = self.run.first_open_copy() else {
                 return Ok(());
             };
-            let is_heard = self.run.is_connected(pair.sender, pair.receiver);
-            self.foresee_turn(pair, is_heard)?;
+            let is_delivered = self.run.is_connected(open_copy.sender, open_copy.receiver);
+            self.foresee_turn(open_copy, is_delivered)?;
             self.run.run_line_silently(ScriptLine::Pump { turns: 1 })?;
-            self.trace_turn(pair, is_heard, out)?;
+            self.report_copy(open_copy, is_delivered, out)?;
         }
         Ok(())
     }
@@ -309,11 +309,11 @@ impl<O: Object> Tracer<O> {
     /// Finds what the step of a turn restores, before it is made.
     ///
     /// A copy that is lost makes none.
-    fn foresee_turn(&mut self, pair: OpenCopy, is_heard: bool) -> Result<(), Fault>
+    fn foresee_turn(&mut self, open_copy: OpenCopy, is_delivered: bool) -> Result<(), Fault>
         ensures { self.new.run ≡ self.old.run }
     {
-        if is_heard {
-            self.foresee(pair.receiver, pair.frame)
+        if is_delivered {
+            self.find_restored_places(open_copy.receiver, open_copy.frame)
         } else {
             Ok(())
         }
@@ -323,10 +323,10 @@ impl<O: Object> Tracer<O> {
     fn foresee_line(&mut self, event_subject: &Option<EventSubject>) -> Result<(), Fault>
         ensures { self.new.run ≡ self.old.run }
     {
-        self.restored = None;
+        self.restored_places = None;
         match event_subject {
             Some(event_subject) => match event_subject.frame {
-                Some(number) => self.foresee(event_subject.node, number),
+                Some(number) => self.find_restored_places(event_subject.node, number),
                 None => Ok(()),
             },
             None => Ok(()),
@@ -337,15 +337,15 @@ impl<O: Object> Tracer<O> {
     ///
     /// A node restores a snapshot only of more places than it has committed, and only if it received all pieces of it.
     /// So a node that received none isn't asked.
-    fn foresee(&mut self, node: Proc, number: u64) -> Result<(), Fault>
+    fn find_restored_places(&mut self, node: Proc, number: u64) -> Result<(), Fault>
         ensures { self.new.run ≡ self.old.run }
     {
-        self.restored = None;
-        let place = usize::from(node.number()) - 1;
+        self.restored_places = None;
+        let node_index = usize::from(node.number()) - 1;
         let Some(frame) = self.sent.frame(number) else {
             return Ok(());
         };
-        let Some(node_view) = self.node_views.get_mut(place) else {
+        let Some(node_view) = self.node_views.get_mut(node_index) else {
             return Ok(());
         };
         if !frame.to.contains(node) {
@@ -354,38 +354,38 @@ impl<O: Object> Tracer<O> {
         node_view.offered = node_view.offered.max(frame.snapshot.unwrap_or(0));
         if node_view.committed < node_view.offered {
             let world = self.run.world();
-            let of = world.node(world.fixed().proc(node.number())?);
+            let node_state = world.node(world.fixed().proc(node.number())?);
             let bytes = world.sent_text().get(frame.begin..frame.end).unwrap_or(&[]);
-            self.restored = restored_by(self.alloc, of, bytes)?;
+            self.restored_places = restored_by(self.alloc, node_state, bytes)?;
         }
         Ok(())
     }
 
     /// Reports the effect of a turn, in which a copy was delivered or lost.
-    fn trace_turn<W: Write>(
+    fn report_copy<W: Write>(
         &mut self,
-        pair: OpenCopy,
-        is_heard: bool,
+        open_copy: OpenCopy,
+        is_delivered: bool,
         out: &mut W,
     ) -> Result<(), Failure>
         ensures { self.new.run ≡ self.old.run }
     {
-        if is_heard {
+        if is_delivered {
             let event_subject = EventSubject {
-                node: pair.receiver,
-                frame: Some(pair.frame),
+                node: open_copy.receiver,
+                frame: Some(open_copy.frame),
                 counted: None,
-                pair: Some(pair),
+                open_copy: Some(open_copy),
                 call: None,
             };
             return self.trace_event(&event_subject, out);
         }
         if self
             .selection
-            .selects_event(self.events, Some(pair.receiver))
+            .selects_event(self.events, Some(open_copy.receiver))
         {
             self.fold.count_lost_copy();
-            self.add_turn(pair, None)?;
+            self.add_turn(open_copy, None)?;
         }
         Ok(())
     }
@@ -393,18 +393,18 @@ impl<O: Object> Tracer<O> {
     /// Adds a turn to those of the fold if the format has details.
     ///
     /// `event` is the number of its event, if the copy was delivered.
-    fn add_turn(&mut self, pair: OpenCopy, event: Option<u64>) -> Result<(), Fault>
+    fn add_turn(&mut self, open_copy: OpenCopy, event: Option<u64>) -> Result<(), Fault>
         ensures { self.new.run ≡ self.old.run }
     {
-        if !self.form.format.has_details() {
+        if !self.printer.format.has_details() {
             return Ok(());
         }
         let details = self.take_details(event.is_some());
-        self.turns.push(TurnValue {
+        self.fold_turns.push(TurnValue {
             event,
-            node: pair.receiver.number(),
-            frame: pair.frame,
-            from: pair.sender.number(),
+            node: open_copy.receiver.number(),
+            frame: open_copy.frame,
+            from: open_copy.sender.number(),
             log: details.changed_log_len,
             sends: details.sent_frames,
         })?;
@@ -416,10 +416,10 @@ impl<O: Object> Tracer<O> {
         ensures { self.new.run ≡ self.old.run }
     {
         let input = mem::replace(&mut self.input, None);
-        let sends = mem::replace(&mut self.sends, Vec::new(self.form.alloc));
+        let sends = mem::replace(&mut self.sends, Vec::new(self.printer.alloc));
         EventDetails {
             input,
-            changed_log_len: if is_event { self.log } else { None },
+            changed_log_len: if is_event { self.changed_log_len } else { None },
             sent_frames: sends,
         }
     }
@@ -435,52 +435,52 @@ impl<O: Object> Tracer<O> {
         self.begin_picture()?;
         self.events = self.events.saturating_add(1);
         if let Some(call) = &event_subject.call {
-            self.queue
+            self.waiting_calls
                 .push_waiting_call(call.resubmitted_after(self.sent.count()))?;
         }
-        self.note_given(event_subject);
+        self.note_receipt(event_subject);
         let counted_event = self.counted_event(event_subject);
         let before = self.sent.count();
         self.note_sent()?;
         self.find_changes(event_subject)?;
-        let told = self.handled_reports;
+        let first_report = self.handled_reports;
         self.remove_answered()?;
-        self.count_event(event_subject, counted_event, before, told);
+        self.count_event(event_subject, counted_event, before, first_report);
         if !self
             .selection
             .selects_event(self.events, Some(event_subject.node))
         {
             return Ok(());
         }
-        let is_quiet = self.changes.is_empty() && self.handled_reports == told;
-        match event_subject.pair {
-            Some(pair) if is_quiet => {
+        let is_quiet = self.changes.is_empty() && self.handled_reports == first_report;
+        match event_subject.open_copy {
+            Some(open_copy) if is_quiet => {
                 self.fold.add_frame(self.events, event_subject.node);
-                self.add_turn(pair, Some(self.events))?;
+                self.add_turn(open_copy, Some(self.events))?;
                 Ok(())
             }
-            _ => self.report_event(event_subject, told, out),
+            _ => self.report_event(event_subject, first_report, out),
         }
     }
 
-    /// Draws and prints an event, with the reports from the index `told` on.
+    /// Draws and prints an event, with the reports from the index `first_report` on.
     fn report_event<W: Write>(
         &mut self,
         event_subject: &EventSubject,
-        told: usize,
+        first_report: usize,
         out: &mut W,
     ) -> Result<(), Failure>
         ensures { self.new.run ≡ self.old.run }
     {
         self.print_fold_end(out)?;
-        if self.form.format.has_picture() {
-            self.draw_event(event_subject, told)?;
+        if self.printer.format.has_picture() {
+            self.draw_event(event_subject, first_report)?;
         }
-        self.print_event(event_subject, told, out)
+        self.print_event(event_subject, first_report, out)
     }
 
     /// Records that the event's node received the frame.
-    fn note_given(&mut self, event_subject: &EventSubject)
+    fn note_receipt(&mut self, event_subject: &EventSubject)
         ensures { self.new.run ≡ self.old.run }
     {
         if let Some(number) = event_subject.frame {
@@ -498,8 +498,8 @@ impl<O: Object> Tracer<O> {
         let Some(input) = self.counted_input(event_subject) else {
             return CountedEvent::Nothing;
         };
-        let place = usize::from(event_subject.node.number()) - 1;
-        match self.node_views.get(place) {
+        let node_index = usize::from(event_subject.node.number()) - 1;
+        match self.node_views.get(node_index) {
             Some(node_view) if node_view.state != State::Stopped => CountedEvent::Input(input),
             _ => CountedEvent::Refused,
         }
@@ -520,19 +520,19 @@ impl<O: Object> Tracer<O> {
         }
     }
 
-    /// Counts the event, which sent the frames with numbers above `before`, with the reports from the index `told` on.
+    /// Counts the event, which sent the frames with numbers above `before`, with the reports from the index `first_report` on.
     fn count_event(
         &mut self,
         event_subject: &EventSubject,
         event: CountedEvent,
         before: u64,
-        told: usize,
+        first_report: usize,
     )
         ensures { self.new.run ≡ self.old.run }
     {
-        let place = usize::from(event_subject.node.number()) - 1;
-        let told = told_since(self.run.world().told(), told);
-        if let Some(counts) = self.counts.get_mut(place) {
+        let node_index = usize::from(event_subject.node.number()) - 1;
+        let told = told_since(self.run.world().told(), first_report);
+        if let Some(counts) = self.counts.get_mut(node_index) {
             count_event(
                 counts,
                 event,
@@ -549,8 +549,8 @@ impl<O: Object> Tracer<O> {
     {
         let before = self.sent.count();
         add_sent_frames(self.alloc, self.run.world(), &mut self.sent)?;
-        if self.form.format.has_details() {
-            self.sends = send_values(self.form.alloc, self.run.world(), &self.sent, before)?;
+        if self.printer.format.has_details() {
+            self.sends = send_values(self.printer.alloc, self.run.world(), &self.sent, before)?;
         }
         Ok(())
     }
@@ -560,7 +560,7 @@ impl<O: Object> Tracer<O> {
         ensures { self.new.run ≡ self.old.run }
     {
         let next = self.events.saturating_add(1);
-        if !self.form.format.has_picture() || next == 1 || next != self.selection.from {
+        if !self.printer.format.has_picture() || next == 1 || next != self.selection.from {
             return Ok(());
         }
         self.draw_node_views(next)?;
@@ -595,7 +595,7 @@ impl<O: Object> Tracer<O> {
     fn draw_waiting(&mut self, event: u64) -> Result<(), Fault>
         ensures { self.new.run ≡ self.old.run }
     {
-        for call in self.queue.calls() {
+        for call in self.waiting_calls.calls() {
             if self.selection.selects_event(event, Some(call.node)) {
                 self.trace_picture.add_call(call, "a call that waits")?;
             }
@@ -603,11 +603,11 @@ impl<O: Object> Tracer<O> {
         Ok(())
     }
 
-    /// Draws an event, with the reports from the index `told` on.
-    fn draw_event(&mut self, event_subject: &EventSubject, told: usize) -> Result<(), Fault>
+    /// Draws an event, with the reports from the index `first_report` on.
+    fn draw_event(&mut self, event_subject: &EventSubject, first_report: usize) -> Result<(), Fault>
         ensures { self.new.run ≡ self.old.run }
     {
-        let told = told_since(self.run.world().told(), told);
+        let told = told_since(self.run.world().told(), first_report);
         let traced_event = TracedEvent {
             event: self.events,
             node: event_subject.node,
@@ -627,8 +627,8 @@ impl<O: Object> Tracer<O> {
         ensures { self.new.run ≡ self.old.run }
     {
         self.changes.clear();
-        let place = usize::from(event_subject.node.number()) - 1;
-        let Some(node_view) = self.node_views.get_mut(place) else {
+        let node_index = usize::from(event_subject.node.number()) - 1;
+        let Some(node_view) = self.node_views.get_mut(node_index) else {
             return Ok(());
         };
         let world = self.run.world();
@@ -641,11 +641,11 @@ impl<O: Object> Tracer<O> {
             trimmed: node.trimmed(),
             log: node.log_len(),
             offered: node_view.offered,
-            restored: self.restored,
+            restored: self.restored_places,
         };
         let before = mem::replace(node_view, now);
         self.has_installed = now.ring != before.ring;
-        self.log = if now.log == before.log {
+        self.changed_log_len = if now.log == before.log {
             None
         } else {
             Some(now.log)
@@ -661,32 +661,32 @@ impl<O: Object> Tracer<O> {
         for one in told.iter().skip(self.handled_reports) {
             match one {
                 Told::Answer(node, call, _) => {
-                    self.queue
+                    self.waiting_calls
                         .remove_oldest_match(WaitingCall::of(*node, call, 0))
                 }
                 // Only the call that was just submitted can be refused.
-                Told::Refused(_, _, _) => self.queue.remove_newest(),
+                Told::Refused(_, _, _) => self.waiting_calls.remove_newest(),
             }
         }
         self.handled_reports = told.len();
         Ok(())
     }
 
-    /// Prints an event, with the reports from the index `told` on.
+    /// Prints an event, with the reports from the index `first_report` on.
     fn print_event<W: Write>(
         &mut self,
         event_subject: &EventSubject,
-        told: usize,
+        first_report: usize,
         out: &mut W,
     ) -> Result<(), Failure>
         ensures { self.new.run ≡ self.old.run }
     {
-        if event_subject.pair.is_some() {
+        if event_subject.open_copy.is_some() {
             self.input = input_of_turn(event_subject);
         }
-        if let Some(pair) = event_subject.pair {
+        if let Some(open_copy) = event_subject.open_copy {
             self.event_description.clear();
-            write_turn(&mut self.event_description, pair).map_err(|_| Failure::Refused(
+            write_turn(&mut self.event_description, open_copy).map_err(|_| Failure::Refused(
                 Fault::Memory,
             ))?;
         }
@@ -696,9 +696,9 @@ impl<O: Object> Tracer<O> {
             node: event_subject.node,
             description: self.event_description.as_str(),
         };
-        let told = told_since(self.run.world().told(), told);
+        let told = told_since(self.run.world().told(), first_report);
         let changes = self.changes.as_slice();
-        self.form.print_event(
+        self.printer.print_event(
             out,
             &self.trace_vocabulary,
             &traced_event,
@@ -713,45 +713,45 @@ impl<O: Object> Tracer<O> {
         ensures { self.new.run ≡ self.old.run }
     {
         let fold = self.fold;
-        let turns = mem::replace(&mut self.turns, Vec::new(self.form.alloc));
+        let turns = mem::replace(&mut self.fold_turns, Vec::new(self.printer.alloc));
         self.fold = Fold::new();
         if fold.is_empty() {
             return Ok(());
         }
-        if self.form.format.has_picture() {
+        if self.printer.format.has_picture() {
             self.trace_picture.add_fold(&fold)?;
         }
-        self.form.print_fold(out, &fold, turns)
+        self.printer.print_fold(out, &fold, turns)
     }
 
     /// Prints what follows the events: the lines of the whole run, the picture, and the parts of a page around it.
     fn print_end<W: Write>(&self, out: &mut W) -> Result<(), Failure> {
         self.print_last_lines(out)?;
-        self.form.print_page_middle(out)?;
-        if self.form.format.has_picture() {
+        self.printer.print_page_before_picture(out)?;
+        if self.printer.format.has_picture() {
             self.trace_picture
                 .print(out, self.events.min(self.selection.to))?;
         }
-        self.form.print_page_tail(out)
+        self.printer.print_page_after_picture(out)
     }
 
     /// Prints the lines of the whole run: the counts, those of each node, the waiting calls, and for programs the
     /// committed places.
     fn print_last_lines<W: Write>(&self, out: &mut W) -> Result<(), Failure> {
-        if self.form.format == TraceFormat::Svg {
+        if self.printer.format == TraceFormat::Svg {
             return Ok(());
         }
         let counts = RunCounts {
             events: self.events,
             frames: self.sent.count(),
         };
-        self.form.print_counts(out, counts)?;
-        self.print_totals(out)?;
+        self.printer.print_run_counts(out, counts)?;
+        self.print_node_counts(out)?;
         self.print_waiting(out)?;
-        if self.form.format.has_details() {
+        if self.printer.format.has_details() {
             print_places(
                 self.alloc,
-                self.form,
+                self.printer,
                 &self.trace_vocabulary,
                 self.run.world(),
                 out,
@@ -761,18 +761,18 @@ impl<O: Object> Tracer<O> {
     }
 
     /// Prints the counts of each node.
-    fn print_totals<W: Write>(&self, out: &mut W) -> Result<(), Failure> {
+    fn print_node_counts<W: Write>(&self, out: &mut W) -> Result<(), Failure> {
         let world = self.run.world();
         for (before, counts) in self.counts.iter().enumerate() {
             if before < PROCESSORS {
                 let node = world.fixed().proc(before as u8 + 1)?;
-                let of = world.node(node);
+                let node_state = world.node(node);
                 let gauges = NodeGauges {
-                    waiting: of.waiting() as u64,
-                    committed: of.committed_len(),
-                    dropped: of.trimmed(),
+                    waiting: node_state.waiting() as u64,
+                    committed: node_state.committed_len(),
+                    dropped: node_state.trimmed(),
                 };
-                self.form.print_totals(
+                self.printer.print_node_counts(
                     out,
                     &NodeTotals {
                         node,
@@ -787,7 +787,7 @@ impl<O: Object> Tracer<O> {
 
     /// Prints the waiting calls, and why they wait.
     fn print_waiting<W: Write>(&self, out: &mut W) -> Result<(), Failure> {
-        let calls = self.queue.calls();
+        let calls = self.waiting_calls.calls();
         if calls.is_empty() {
             return Ok(());
         }
@@ -795,7 +795,7 @@ impl<O: Object> Tracer<O> {
         for (place, (waiting, is_sent)) in calls.iter().zip(are_sent.iter()).enumerate() {
             let is_logged = self.is_logged(waiting.node, calls.get(..place).unwrap_or(&[]))?;
             let why = self.reason(waiting.node, *is_sent, is_logged);
-            self.form.print_waiting(out, waiting, &why)?;
+            self.printer.print_waiting(out, waiting, &why)?;
         }
         Ok(())
     }
@@ -806,8 +806,10 @@ impl<O: Object> Tracer<O> {
     /// the order of submission.
     fn is_logged(&self, node: Proc, before: &[WaitingCall]) -> Result<bool, Fault> {
         let world = self.run.world();
-        let of = world.node(world.fixed().proc(node.number())?);
-        let open = of.log_len().saturating_sub(of.committed_len());
+        let node_state = world.node(world.fixed().proc(node.number())?);
+        let open = node_state
+            .log_len()
+            .saturating_sub(node_state.committed_len());
         let mut many = 0u64;
         for waiting in before {
             if waiting.node == node {
@@ -822,8 +824,8 @@ impl<O: Object> Tracer<O> {
     /// `is_sent` says whether the node has sent it, and `is_logged` whether it is in the log of a node that is alone in
     /// its ring.
     fn reason(&self, node: Proc, is_sent: bool, is_logged: bool) -> WaitReason {
-        let place = usize::from(node.number()) - 1;
-        match self.node_views.get(place) {
+        let node_index = usize::from(node.number()) - 1;
+        match self.node_views.get(node_index) {
             Some(node_view) => node_view.wait_reason(
                 self.nodes,
                 is_sent || (node_view.is_alone() && is_logged),

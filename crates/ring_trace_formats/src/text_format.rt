@@ -90,7 +90,7 @@ pub(crate) fn print_heal<W: Write>(out: &mut W) -> Result<(), Failure>
 /// Errors: `Output` if `out` fails. How much has been written is then unspecified.
 ///
 /// Formats: The command line
-pub(crate) fn print_counts<W: Write>(out: &mut W, counts: RunCounts) -> Result<(), Failure>
+pub(crate) fn print_run_counts<W: Write>(out: &mut W, counts: RunCounts) -> Result<(), Failure>
     ensures { IfErr result (λ failure. failure ≡ Output) }
 {
     let RunCounts { events, frames } = counts;
@@ -102,7 +102,7 @@ pub(crate) fn print_counts<W: Write>(out: &mut W, counts: RunCounts) -> Result<(
 /// Errors: `Output` if `out` fails. How much has been written is then unspecified.
 ///
 /// Formats: The command line
-pub(crate) fn print_totals<W: Write>(out: &mut W, totals: &NodeTotals) -> Result<(), Failure>
+pub(crate) fn print_node_counts<W: Write>(out: &mut W, totals: &NodeTotals) -> Result<(), Failure>
     ensures { IfErr result (λ failure. failure ≡ Output) }
 {
     writeln!(out, "{totals}").map_err(|_| Failure::Output)

@@ -13,7 +13,7 @@ use ring_failure::{Failure, output_result};
 use ring_payload::Call;
 use ring_session::Answer;
 use ring_trace_json::{EventDetails, JsonPrinter, TurnValue};
-use ring_trace_page::{write_page_head, write_page_middle, write_page_tail};
+use ring_trace_page::{write_page_after_picture, write_page_before_picture, write_page_head};
 use ring_trace_words::{
     Change, Fold, NodeTotals, RunCounts, Told, TraceVocabulary, TracedEvent, WaitReason,
     WaitingCall,
@@ -191,14 +191,14 @@ impl TracePrinter {
     /// Errors: as for [`print_event`](TracePrinter::print_event).
     ///
     /// Formats: The command line
-    pub fn print_counts<W: Write>(self, out: &mut W, counts: RunCounts) -> Result<(), Failure>
+    pub fn print_run_counts<W: Write>(self, out: &mut W, counts: RunCounts) -> Result<(), Failure>
         ensures picture { self.format ≡ TraceFormat.Svg → out.new ≡ out.old }
         ensures failed { IfErr result IsOutputOrMemory }
     {
         match self.format {
-            TraceFormat::Text => text_format::print_counts(out, counts),
+            TraceFormat::Text => text_format::print_run_counts(out, counts),
             TraceFormat::Svg => Ok(()),
-            TraceFormat::Json | TraceFormat::Html => self.json().print_counts(out, counts),
+            TraceFormat::Json | TraceFormat::Html => self.json().print_run_counts(out, counts),
         }
     }
 
@@ -207,14 +207,18 @@ impl TracePrinter {
     /// Errors: as for [`print_event`](TracePrinter::print_event).
     ///
     /// Formats: The command line
-    pub fn print_totals<W: Write>(self, out: &mut W, totals: &NodeTotals) -> Result<(), Failure>
+    pub fn print_node_counts<W: Write>(
+        self,
+        out: &mut W,
+        totals: &NodeTotals,
+    ) -> Result<(), Failure>
         ensures picture { self.format ≡ TraceFormat.Svg → out.new ≡ out.old }
         ensures failed { IfErr result IsOutputOrMemory }
     {
         match self.format {
-            TraceFormat::Text => text_format::print_totals(out, totals),
+            TraceFormat::Text => text_format::print_node_counts(out, totals),
             TraceFormat::Svg => Ok(()),
-            TraceFormat::Json | TraceFormat::Html => self.json().print_totals(out, totals),
+            TraceFormat::Json | TraceFormat::Html => self.json().print_node_counts(out, totals),
         }
     }
 
@@ -272,13 +276,13 @@ impl TracePrinter {
     /// Errors: `Output` if `out` fails. How much has been written is then unspecified.
     ///
     /// Formats: The command line
-    pub fn print_page_middle<W: Write>(self, out: &mut W) -> Result<(), Failure>
+    pub fn print_page_before_picture<W: Write>(self, out: &mut W) -> Result<(), Failure>
         ensures picture { self.format ≡ TraceFormat.Svg → out.new ≡ out.old }
         ensures failed { IfErr result IsOutputOrMemory }
     {
         match self.format {
             TraceFormat::Text | TraceFormat::Json | TraceFormat::Svg => Ok(()),
-            TraceFormat::Html => output_result(write_page_middle(out)),
+            TraceFormat::Html => output_result(write_page_before_picture(out)),
         }
     }
 
@@ -289,13 +293,13 @@ impl TracePrinter {
     /// Errors: `Output` if `out` fails. How much has been written is then unspecified.
     ///
     /// Formats: The command line
-    pub fn print_page_tail<W: Write>(self, out: &mut W) -> Result<(), Failure>
+    pub fn print_page_after_picture<W: Write>(self, out: &mut W) -> Result<(), Failure>
         ensures picture { self.format ≡ TraceFormat.Svg → out.new ≡ out.old }
         ensures failed { IfErr result IsOutputOrMemory }
     {
         match self.format {
             TraceFormat::Text | TraceFormat::Json | TraceFormat::Svg => Ok(()),
-            TraceFormat::Html => output_result(write_page_tail(out)),
+            TraceFormat::Html => output_result(write_page_after_picture(out)),
         }
     }
 }

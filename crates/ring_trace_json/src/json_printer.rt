@@ -162,7 +162,7 @@ impl JsonPrinter {
     /// Errors: as for [`print_event`](JsonPrinter::print_event).
     ///
     /// Formats: The command line
-    pub fn print_counts<W: Write>(self, out: &mut W, counts: RunCounts) -> Result<(), Failure>
+    pub fn print_run_counts<W: Write>(self, out: &mut W, counts: RunCounts) -> Result<(), Failure>
         ensures { IfErr result IsOutputOrMemory }
     {
         let line = CountsLine {
@@ -179,7 +179,11 @@ impl JsonPrinter {
     /// Errors: as for [`print_event`](JsonPrinter::print_event).
     ///
     /// Formats: The command line
-    pub fn print_totals<W: Write>(self, out: &mut W, totals: &NodeTotals) -> Result<(), Failure>
+    pub fn print_node_counts<W: Write>(
+        self,
+        out: &mut W,
+        totals: &NodeTotals,
+    ) -> Result<(), Failure>
         ensures { IfErr result IsOutputOrMemory }
     {
         let (counts, gauges) = (totals.counts, totals.gauges);

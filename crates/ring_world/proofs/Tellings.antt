@@ -3,7 +3,7 @@ use Rattle.std.proofs.Common.{◌≡◌, ℕ, ◌+◌, ◌≤◌, List, [], ◌�
 use Rattle.std.proofs.Common.{◌∙◌, sym, subst, arith, append-nil, append_assoc, length-append}
 use Rattle.std.proofs.lemmas.List.{map-append}
 use Rattle.ring_payload.specs.declared.call.Call.{Call}
-use Rattle.ring_session.specs.SessionAnswer.{decode_reply}
+use Rattle.ring_session.specs.SessionAnswer.{reply_of_answer}
 use Rattle.ring_session.specs.declared.ticket_answer.TicketAnswer.{TicketAnswer}
 use Rattle.ring_node_spec.specs.declared.item.Item.{Item}
 use Rattle.ring_node_spec.specs.declared.client_report.Told.{Told}
@@ -23,10 +23,10 @@ pub record HasTaken (n len len' capacity capacity' : ℕ) : Type 0 where
   pub len_is : len' ≤ len + n
   pub capacity_is : capacity' ≡ capacity
 
-reply_items_of-push : {A : Type 0} (xs : List (TicketAnswer A)) (x : TicketAnswer A) → reply_items_of (xs ++ x ∷ []) ≡ reply_items_of xs ++ reply_items x.call (decode_reply x.answer)
-reply_items_of-push [] x = append-nil (reply_items x.call (decode_reply x.answer))
-reply_items_of-push (y ∷ xs) x = ap (λ is. reply_items y.call (decode_reply y.answer) ++ is) (reply_items_of-push xs x)
-    ∙ sym (append_assoc (reply_items y.call (decode_reply y.answer)) (reply_items_of xs) (reply_items x.call (decode_reply x.answer)))
+reply_items_of-push : {A : Type 0} (xs : List (TicketAnswer A)) (x : TicketAnswer A) → reply_items_of (xs ++ x ∷ []) ≡ reply_items_of xs ++ reply_items x.call (reply_of_answer x.answer)
+reply_items_of-push [] x = append-nil (reply_items x.call (reply_of_answer x.answer))
+reply_items_of-push (y ∷ xs) x = ap (λ is. reply_items y.call (reply_of_answer y.answer) ++ is) (reply_items_of-push xs x)
+    ∙ sym (append_assoc (reply_items y.call (reply_of_answer y.answer)) (reply_items_of xs) (reply_items x.call (reply_of_answer x.answer)))
 
 after-push : {A : Type 0} (calls : List (Option (Call A))) (xs : List (TicketAnswer A)) (x : TicketAnswer A)
     → copies_after_answers calls (xs ++ x ∷ []) ≡ without (copies_after_answers calls xs) x.ticket
@@ -39,7 +39,7 @@ module _ {A : Type 0} (node : ℕ) (answers : List (TicketAnswer A)) (told : Lis
 
   pub one_told : (x : TicketAnswer A) (told1 told2 : List (Told A)) (history1 history2 : List (Item A))
       (calls1 calls2 : List (Option (Call A))) → HasTold node answers told told1 history history1 calls calls1 →
-      told2 ≡ told1 ++ ToldAnswer node x.call x.answer ∷ [] → history2 ≡ history1 ++ reply_items x.call (decode_reply x.answer) → calls2 ≡ without calls1 x.ticket →
+      told2 ≡ told1 ++ ToldAnswer node x.call x.answer ∷ [] → history2 ≡ history1 ++ reply_items x.call (reply_of_answer x.answer) → calls2 ≡ without calls1 x.ticket →
       HasTold node (answers ++ x ∷ []) told told2 history history2 calls calls2
   one_told x told1 told2 history1 history2 calls1 calls2 h a b c =
       let tells : TicketAnswer A → Told A = λ y. ToldAnswer node y.call y.answer in
@@ -47,8 +47,8 @@ module _ {A : Type 0} (node : ℕ) (answers : List (TicketAnswer A)) (told : Lis
         told_is = a ∙ ap (λ ts. ts ++ ToldAnswer node x.call x.answer ∷ []) h.told_is ∙ append_assoc told
             (reports_of_answers node answers) (ToldAnswer node x.call x.answer ∷ []) ∙ ap (λ ts. told ++ ts)
             (sym (map-append tells answers (x ∷ [])));
-        history_is = b ∙ ap (λ is. is ++ reply_items x.call (decode_reply x.answer)) h.history_is ∙ append_assoc history
-            (reply_items_of answers) (reply_items x.call (decode_reply x.answer)) ∙ ap (λ is. history ++ is)
+        history_is = b ∙ ap (λ is. is ++ reply_items x.call (reply_of_answer x.answer)) h.history_is ∙ append_assoc history
+            (reply_items_of answers) (reply_items x.call (reply_of_answer x.answer)) ∙ ap (λ is. history ++ is)
             (sym (reply_items_of-push answers x));
         spares = c ∙ ap (λ cs. without cs x.ticket) h.spares ∙ sym (after-push calls answers x);
       }

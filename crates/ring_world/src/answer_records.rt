@@ -3,7 +3,7 @@
 //! Rules: The book and the threads 5; Sessions 9
 
 ghost use Rattle.std.specs.Prelude.{◌≡◌, ℕ, ◌+◌, ◌≤◌, [], ◌∷◌, ◌++◌, length, vec_len, vec_capacity};
-ghost use Rattle.ring_session.specs.SessionAnswer.{decode_reply};
+ghost use Rattle.ring_session.specs.SessionAnswer.{reply_of_answer};
 ghost use Rattle.ring_node_spec.specs.Worlds.{reply_items_of, reply_items, reports_of_answers};
 ghost use Rattle.ring_node_spec.specs.declared.client_report.Told.TheVariants.{Answer as ToldAnswer};
 ghost use Rattle.ring_world.specs.SpareCalls.{HasCopy, HaveCopies, without, copies_after_answers};
@@ -81,7 +81,7 @@ fn record_answer<A: Allocator + Copy>(
     ensures told { told.new.items ≡ told.old.items ++ ToldAnswer node answered.call answered.answer ∷ [] }
     ensures told_len { vec_len told.new ≡ vec_len told.old + 1 }
     ensures told_capacity { vec_capacity told.new ≡ vec_capacity told.old }
-    ensures history { history.new.items ≡ history.old.items ++ reply_items answered.call (decode_reply answered.answer) }
+    ensures history { history.new.items ≡ history.old.items ++ reply_items answered.call (reply_of_answer answered.answer) }
     ensures history_len { vec_len history.new ≤ vec_len history.old + 1 }
     ensures history_capacity { vec_capacity history.new ≡ vec_capacity history.old }
     ensures spares { spares.new.calls ≡ without spares.old.calls answered.ticket }
@@ -94,7 +94,7 @@ fn record_answer<A: Allocator + Copy>(
 /// Appends the answer's reply to the history, if it has one.
 fn append_reply<A: Allocator + Copy>(history: &mut Vec<Item<A>, A>, call: Call<A>, answer: &Answer)
     requires { vec_len history.old + 1 ≤ vec_capacity history.old }
-    ensures items { history.new.items ≡ history.old.items ++ reply_items call (decode_reply answer.now) }
+    ensures items { history.new.items ≡ history.old.items ++ reply_items call (reply_of_answer answer.now) }
     ensures len { vec_len history.new ≤ vec_len history.old + 1 }
     ensures capacity { vec_capacity history.new ≡ vec_capacity history.old }
 {

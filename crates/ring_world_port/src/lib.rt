@@ -12,6 +12,6 @@ mod port;
 mod submitted_call;
 
 pub use network::{Network, WorldTicket};
-pub use port::{Shared, WorldPort};
+pub use port::{SharedNetwork, WorldPort};
 pub use ring_node_spec::Event;
 pub use ring_world::{Item, Noise, Pump, Told, World, stopped_for_memory_law};

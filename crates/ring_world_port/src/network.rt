@@ -237,7 +237,7 @@ impl<O: Object> Network<O> {
     /// an earlier poll of the ticket has searched aren't searched again.
     ///
     /// Rules: Clients 8
-    pub(crate) fn answer_to(&mut self, ticket: &WorldTicket) -> Option<Answer>
+    pub(crate) fn poll_answer(&mut self, ticket: &WorldTicket) -> Option<Answer>
         ensures told { IfSome result IsClientVisible }
         ensures here { IfSome result (IsToldSince ticket.now self.old.pump.world_view.told) }
         ensures given { IfSome result (HasTold O.Alloc O.sequential ticket.now) }

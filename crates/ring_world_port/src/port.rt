@@ -21,7 +21,7 @@ use std::rc::Rc;
 /// One holder at a time may borrow it.
 ///
 /// Rules: Clients 8
-pub type Shared<O: Object> = Rc<RefCell<Network<O>>, O::Alloc>;
+pub type SharedNetwork<O: Object> = Rc<RefCell<Network<O>>, O::Alloc>;
 
 /// A port to a node of a world.
 ///
@@ -33,7 +33,7 @@ pub type Shared<O: Object> = Rc<RefCell<Network<O>>, O::Alloc>;
 /// Rules: Clients 2 and 8
 #[derive(Drop)]
 pub struct WorldPort<O: Object> {
-    network: Shared<O>,
+    network: SharedNetwork<O>,
     node: Proc,
     asked: Asked,
 }
@@ -45,7 +45,7 @@ impl<O: Object> WorldPort<O> {
     /// has the network borrowed.
     ///
     /// Rules: Clients 2 and 8
-    pub fn new(network: Shared<O>, node: Proc) -> WorldPort<O>
+    pub fn new(network: SharedNetwork<O>, node: Proc) -> WorldPort<O>
         ensures node { result.node ≡ node }
         ensures asked { result.asked ≡ new_asked }
     {
@@ -59,7 +59,7 @@ impl<O: Object> WorldPort<O> {
     /// Submits the call at the port's node in the network.
     ///
     /// Errors: `NoAnswer` while another holder has the network borrowed. Otherwise those of [`Network::submit`].
-    fn try_submit(&mut self, call: &Call<O::Alloc>) -> Result<WorldTicket, Fault>
+    fn submit_unrecorded(&mut self, call: &Call<O::Alloc>) -> Result<WorldTicket, Fault>
         ensures same { self.new ≡ self.old }
         ensures ticket { IfOk result (λ ticket. ticket.call ≡ submitted_call_of self.old.node (asked_after_submit call.now)) }
         ensures fits { OnOk result (IsSubmittable call.now) }
@@ -74,7 +74,7 @@ impl<O: Object> WorldPort<O> {
     /// Returns the answer to the ticket's call if the world has reported it.
     ///
     /// Otherwise the network performs a turn; if an allocation fails in the turn, that is ignored.
-    fn try_poll(&mut self, ticket: &WorldTicket) -> Option<Answer>
+    fn poll_unrecorded(&mut self, ticket: &WorldTicket) -> Option<Answer>
         ensures same { self.new ≡ self.old }
         ensures told { IfSome result IsClientVisible }
         ensures given { IfSome result (HasTold O.Alloc O.sequential ticket.now) }
@@ -82,7 +82,7 @@ impl<O: Object> WorldPort<O> {
         let Ok(mut network) = self.network.try_borrow_mut() else {
             return None;
         };
-        network.answer_to(ticket)
+        network.poll_answer(ticket)
     }
 }
 
@@ -91,7 +91,7 @@ impl<O: Object> Port for WorldPort<O> {
 
     type Ticket = WorldTicket;
 
-    ghost trace_options_of = { λ port. port.asked };
+    ghost asked_of = { λ port. port.asked };
 
     /// Submits a copy of the call at the port's node, records it in `asked`, and returns the ticket to poll for the
     /// answer.
@@ -109,7 +109,7 @@ impl<O: Object> Port for WorldPort<O> {
         ensures node { self.new.node ≡ self.old.node }
     {
         self.asked.note_submit(call);
-        let submit = self.try_submit(call);
+        let submit = self.submit_unrecorded(call);
         if let Err(fault) = submit {
             self.asked.note_refusal(fault);
         }
@@ -128,7 +128,7 @@ impl<O: Object> Port for WorldPort<O> {
         ensures given { IfSome result (HasTold O.Alloc O.sequential ticket.now) }
         ensures node { self.new.node ≡ self.old.node }
     {
-        let answer = self.try_poll(ticket);
+        let answer = self.poll_unrecorded(ticket);
         self.asked.note_poll(answer);
         self.asked.answer
     }

@@ -7,7 +7,7 @@ use ring_base::{Fault, Kind, Proc, ProcSet, pair_result};
 use ring_client::{Client, Port};
 use ring_object::{Object, Reply};
 use ring_things::Counters;
-use ring_world_port::{Event, Shared, WorldPort};
+use ring_world_port::{Event, SharedNetwork, WorldPort};
 use std::test::Fail;
 
 /// A port's last submit: its number, its refusal, and the number of polls since.
@@ -67,7 +67,7 @@ fn is_five(seen: &ClientSeen) -> bool {
 /// Makes a client of three nodes, of which those of `group` hear each other. It polls each port at most `polls` times.
 fn client_in<O: Object>(
     alloc: O::Alloc,
-    shared: &Shared<O>,
+    shared: &SharedNetwork<O>,
     group: ProcSet,
     polls: u64,
 ) -> Result<Client<WorldPort<O>>, Fault> {
@@ -80,7 +80,7 @@ fn opened<O: Object>(
     alloc: O::Alloc,
     group: ProcSet,
     polls: u64,
-) -> Result<(Shared<O>, Client<WorldPort<O>>), Fault> {
+) -> Result<(SharedNetwork<O>, Client<WorldPort<O>>), Fault> {
     let shared = three::<O>(alloc)?;
     let client = client_in(alloc, &shared, group, polls);
     pair_result(shared, client)
@@ -98,7 +98,7 @@ fn stays_open<O: Object>(client: &mut Client<WorldPort<O>>) -> bool {
 /// though two nodes waited for it.
 fn is_answered_later<O: Object>(
     client: &mut Client<WorldPort<O>>,
-    shared: &Shared<O>,
+    shared: &SharedNetwork<O>,
 ) -> Result<bool, Fault> {
     let stays = stays_open(client) && stays_open(client);
     cut(shared, everybody()?)?;
@@ -110,7 +110,7 @@ fn is_answered_later<O: Object>(
 /// Returns whether a stopped node refuses the submit and isn't polled, and the others, which are a majority, answer.
 fn is_passed_over<O: Object>(
     client: &mut Client<WorldPort<O>>,
-    shared: &Shared<O>,
+    shared: &SharedNetwork<O>,
 ) -> Result<bool, Fault> {
     run_event(shared, Event::Stop(Proc::new(1)))?;
     let first = added(client);
@@ -120,7 +120,7 @@ fn is_passed_over<O: Object>(
 }
 
 /// Returns the number of calls that the node of this number has committed, duplicates included.
-fn committed<O: Object>(shared: &Shared<O>, number: u8) -> Result<usize, Fault> {
+fn committed<O: Object>(shared: &SharedNetwork<O>, number: u8) -> Result<usize, Fault> {
     let Ok(network) = shared.try_borrow() else {
         return Err(Fault::NoAnswer);
     };
@@ -134,7 +134,7 @@ fn committed<O: Object>(shared: &Shared<O>, number: u8) -> Result<usize, Fault> 
 /// call that is in the base already isn't queued.
 fn counts_once<O: Object>(
     client: &mut Client<WorldPort<O>>,
-    shared: &Shared<O>,
+    shared: &SharedNetwork<O>,
 ) -> Result<bool, Fault> {
     let by_second = added(client);
     let is_in_vain = by_second.told[0] == Some((1, None, 200));
@@ -175,7 +175,7 @@ impl ClientStory {
 /// Returns whether the client's calls have the outcomes that they should.
 fn goes_well<O: Object>(
     client: &mut Client<WorldPort<O>>,
-    shared: &Shared<O>,
+    shared: &SharedNetwork<O>,
     story: ClientStory,
 ) -> Result<bool, Fault> {
     match story {

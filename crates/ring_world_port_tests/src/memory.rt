@@ -9,7 +9,7 @@ use ring_client::{Client, Port};
 use ring_object::{Object, Reply};
 use ring_payload::Call;
 use ring_things::Counters;
-use ring_world_port::{Shared, World, WorldPort};
+use ring_world_port::{SharedNetwork, World, WorldPort};
 use std::alloc::Global;
 use std::process::Abort;
 
@@ -17,7 +17,7 @@ use std::process::Abort;
 const POLLS: u64 = 400;
 
 /// Makes three nodes, again after a refusal.
-fn opened<O: Object>(heap: O::Alloc) -> Result<Shared<O>, Fault> {
+fn opened<O: Object>(heap: O::Alloc) -> Result<SharedNetwork<O>, Fault> {
     match three::<O>(heap) {
         Err(Fault::Memory) => three::<O>(heap),
         made => made,
@@ -25,7 +25,10 @@ fn opened<O: Object>(heap: O::Alloc) -> Result<Shared<O>, Fault> {
 }
 
 /// Makes a client, again after a refusal.
-fn client<O: Object>(heap: O::Alloc, shared: &Shared<O>) -> Result<Client<WorldPort<O>>, Fault> {
+fn client<O: Object>(
+    heap: O::Alloc,
+    shared: &SharedNetwork<O>,
+) -> Result<Client<WorldPort<O>>, Fault> {
     match client_of(heap, shared, POLLS) {
         Err(Fault::Memory) => client_of(heap, shared, POLLS),
         made => made,
@@ -42,7 +45,7 @@ fn called<P: Port>(client: &mut Client<P>) -> Result<Reply, Fault> {
 }
 
 /// Returns the reply to the client's call, at the second try at the latest.
-fn replied<O: Object>(heap: O::Alloc, shared: &Shared<O>) -> Result<Reply, Fault> {
+fn replied<O: Object>(heap: O::Alloc, shared: &SharedNetwork<O>) -> Result<Reply, Fault> {
     let mut client = client(heap, shared)?;
     let replied = called(&mut client);
     drop(client);
@@ -66,7 +69,7 @@ fn is_explained<O: Object>(world: &World<O>, ample: O::Alloc) -> Result<bool, Fa
 }
 
 /// Returns this for the world of three nodes.
-fn explains<O: Object>(shared: &Shared<O>, ample: O::Alloc) -> Result<bool, Fault> {
+fn explains<O: Object>(shared: &SharedNetwork<O>, ample: O::Alloc) -> Result<bool, Fault> {
     let Ok(network) = shared.try_borrow() else {
         return Err(Fault::NoAnswer);
     };
@@ -75,7 +78,7 @@ fn explains<O: Object>(shared: &Shared<O>, ample: O::Alloc) -> Result<bool, Faul
 
 /// Returns whether a client's call is answered, at node 1 or else at node 2, and takes effect once.
 fn is_answered_by<O: Object>(
-    shared: &Shared<O>,
+    shared: &SharedNetwork<O>,
     heap: O::Alloc,
     ample: O::Alloc,
 ) -> Result<bool, Fault> {

@@ -9,7 +9,7 @@ use ring_object::Object;
 use ring_payload::{Call, CallOperation};
 use ring_session::Answer;
 use ring_things::Counters;
-use ring_world_port::{Event, Shared, WorldPort};
+use ring_world_port::{Event, SharedNetwork, WorldPort};
 use std::alloc::Allocator;
 use std::test::Fail;
 
@@ -61,7 +61,7 @@ fn numbered_0<A: Allocator + Copy>(alloc: A, op: &[u8]) -> Result<Call<A>, Fault
 
 /// Returns the refusal at a port to a node that isn't in the group.
 fn refused_of_stranger<O: Object>(
-    shared: &Shared<O>,
+    shared: &SharedNetwork<O>,
     call: &Call<O::Alloc>,
 ) -> Result<Refused, Fault> {
     let mut stranger = WorldPort::new(shared.clone()?, Proc::new(4));
@@ -72,7 +72,7 @@ fn refused_of_stranger<O: Object>(
 
 /// Returns the refusal while another holder has the network borrowed.
 fn refused_while_held<O: Object>(
-    shared: &Shared<O>,
+    shared: &SharedNetwork<O>,
     port: &mut WorldPort<O>,
     call: &Call<O::Alloc>,
 ) -> Refused {
@@ -105,7 +105,7 @@ struct Calls<A: Allocator + Copy> {
 /// Returns each refusal in turn: of calls that reach no node, then of the node with 64 waiting tickets, and of the stopped
 /// node.
 fn refused_in_turn<O: Object>(
-    shared: &Shared<O>,
+    shared: &SharedNetwork<O>,
     port: &mut WorldPort<O>,
     calls: &Calls<O::Alloc>,
 ) -> Result<[Refused; 6], Fault> {
@@ -122,7 +122,7 @@ fn refused_in_turn<O: Object>(
 
 /// Returns these refusals at the first node.
 fn refused_at_first<O: Object>(
-    shared: &Shared<O>,
+    shared: &SharedNetwork<O>,
     calls: &Calls<O::Alloc>,
 ) -> Result<[Refused; 6], Fault> {
     let mut port = WorldPort::new(shared.clone()?, Proc::new(1));
@@ -160,7 +160,7 @@ fn a_submit_is_refused_for_its_first_reason(rt: HostRuntime) -> Result<(), Fail>
 }
 
 /// Returns the number of the world's events.
-fn events<O: Object>(shared: &Shared<O>) -> Result<usize, Fault> {
+fn events<O: Object>(shared: &SharedNetwork<O>) -> Result<usize, Fault> {
     let Ok(network) = shared.try_borrow() else {
         return Err(Fault::NoAnswer);
     };
@@ -169,7 +169,7 @@ fn events<O: Object>(shared: &Shared<O>) -> Result<usize, Fault> {
 
 /// Submits the call twice. Returns the refusal of the first submit, and the number of events after each.
 fn refused_once<O: Object>(
-    shared: &Shared<O>,
+    shared: &SharedNetwork<O>,
     port: &mut WorldPort<O>,
     call: &Call<O::Alloc>,
 ) -> Result<(Refused, usize, usize), Fault> {
@@ -181,7 +181,7 @@ fn refused_once<O: Object>(
 
 /// Does this at the first node.
 fn refused_once_at_first<O: Object>(
-    shared: &Shared<O>,
+    shared: &SharedNetwork<O>,
     call: &Call<O::Alloc>,
 ) -> Result<(Refused, usize, usize), Fault> {
     let mut port = WorldPort::new(shared.clone()?, Proc::new(1));

@@ -6,7 +6,7 @@ use ring_base::{Fault, Fixed, ProcSet, pair_result};
 use ring_client::Client;
 use ring_object::{Object, Reply};
 use ring_things::{Counters, Operation};
-use ring_world_port::{Event, Network, Shared, World, WorldPort};
+use ring_world_port::{Event, Network, SharedNetwork, World, WorldPort};
 use std::cell::RefCell;
 use std::rc::Rc;
 
@@ -32,14 +32,14 @@ pub fn everybody() -> Result<ProcSet, Fault> {
 
 /// Returns a network of three nodes that all hear each other.
 /// Errors: `Memory`.
-pub fn three<O: Object>(alloc: O::Alloc) -> Result<Shared<O>, Fault> {
+pub fn three<O: Object>(alloc: O::Alloc) -> Result<SharedNetwork<O>, Fault> {
     let network = Network::new(World::<O>::new(alloc, Fixed::new(3)?)?);
     Ok(Rc::new(alloc, RefCell::new(network))?)
 }
 
 /// Adds ports to nodes 1 and 2.
 fn add_ports<O: Object>(
-    shared: &Shared<O>,
+    shared: &SharedNetwork<O>,
     ports: &mut Vec<WorldPort<O>, O::Alloc>,
 ) -> Result<(), Fault> {
     for number in [1, 2] {
@@ -53,7 +53,7 @@ fn add_ports<O: Object>(
 /// Errors: `Memory`.
 pub fn client_of<O: Object>(
     alloc: O::Alloc,
-    shared: &Shared<O>,
+    shared: &SharedNetwork<O>,
     polls: u64,
 ) -> Result<Client<WorldPort<O>>, Fault> {
     let mut ports = Vec::new(alloc);
@@ -64,7 +64,7 @@ pub fn client_of<O: Object>(
 
 /// Lets only the nodes of this group hear each other from now on.
 /// Errors: `NoAnswer` where the network is borrowed.
-pub fn cut<O: Object>(shared: &Shared<O>, group: ProcSet) -> Result<(), Fault> {
+pub fn cut<O: Object>(shared: &SharedNetwork<O>, group: ProcSet) -> Result<(), Fault> {
     let Ok(mut network) = shared.try_borrow_mut() else {
         return Err(Fault::NoAnswer);
     };
@@ -74,7 +74,7 @@ pub fn cut<O: Object>(shared: &Shared<O>, group: ProcSet) -> Result<(), Fault> {
 
 /// Runs this event in the world.
 /// Errors: `NoAnswer` where the network is borrowed, else `Memory`.
-pub fn run_event<O: Object>(shared: &Shared<O>, event: Event<O::Alloc>) -> Result<(), Fault>
+pub fn run_event<O: Object>(shared: &SharedNetwork<O>, event: Event<O::Alloc>) -> Result<(), Fault>
     requires { EventFits event }
 {
     let Ok(mut network) = shared.try_borrow_mut() else {
@@ -85,7 +85,7 @@ pub fn run_event<O: Object>(shared: &Shared<O>, event: Event<O::Alloc>) -> Resul
 
 /// Returns the length of the world's order.
 /// Errors: `NoAnswer` where the network is borrowed.
-pub fn order_len<O: Object>(shared: &Shared<O>) -> Result<u64, Fault> {
+pub fn order_len<O: Object>(shared: &SharedNetwork<O>) -> Result<u64, Fault> {
     let Ok(network) = shared.try_borrow() else {
         return Err(Fault::NoAnswer);
     };

@@ -20,7 +20,7 @@ use std::mem::replace;
 /// Makes the node and puts it on the heap.
 ///
 /// Errors: those of [`HandleContents::new`]; then `Memory` if an allocation fails.
-fn new_box(
+fn box_contents(
     alloc: Global,
     me: u32,
     votes: &[u8],
@@ -53,7 +53,7 @@ pub(crate) fn open(
             *handle = Handle::from_contents(raw_box);
             Status::Misused
         }
-        None => match new_box(alloc, me, votes, periods) {
+        None => match box_contents(alloc, me, votes, periods) {
             Ok(contents) => {
                 *handle = Handle::from_contents(RawBox::take_apart_box(contents));
                 Status::Done
@@ -91,7 +91,7 @@ pub(crate) fn take(alloc: Global, handle: &mut Handle, kind: u8, bytes: &[u8]) -
 /// handle.
 ///
 /// Formats: A library for C
-pub(crate) fn read(alloc: Global, handle: &mut Handle, into: &mut [u8]) -> usize
+pub(crate) fn read_unread_bytes(alloc: Global, handle: &mut Handle, into: &mut [u8]) -> usize
     ensures { Reads handle.old.value into.old into.new result handle.new.value }
 {
     match replace(handle, Handle::empty_handle()).into_raw_box(alloc) {

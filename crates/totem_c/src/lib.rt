@@ -97,7 +97,7 @@ pub extern "C" fn totem_c_take(alloc: Global, handle: &mut Handle, kind: u8, byt
 pub extern "C" fn totem_c_read(alloc: Global, handle: &mut Handle, into: &mut [u8]) -> usize
     ensures { Reads handle.old.value into.old into.new result handle.new.value }
 {
-    handle_functions::read(alloc, handle, into)
+    handle_functions::read_unread_bytes(alloc, handle, into)
 }
 
 /// Frees the handle's node, with its unread bytes, and leaves the handle empty.

@@ -12,7 +12,7 @@ use std::io;
 use std::rc::Rc;
 use totem_ring::{
     Client, Counters, Event, Fault, Fixed, Kind, Network, Object, Port, Proc, ProcSet, Reply,
-    ReplyParts, Shared, World, WorldPort,
+    ReplyParts, SharedNetwork, World, WorldPort,
 };
 
 /// The most polls of a node for one call.
@@ -67,7 +67,7 @@ pub fn cut_network<O: Object>(
     alloc: O::Alloc,
     fixed: Fixed,
     alone: Proc,
-) -> Result<Shared<O>, Fault> {
+) -> Result<SharedNetwork<O>, Fault> {
     let mut network = Network::new(World::<O>::new(alloc, fixed)?);
     network.cut(fixed.everybody().without_members(ProcSet::singleton(alone)));
     Ok(Rc::new(alloc, RefCell::new(network))?)
@@ -75,7 +75,7 @@ pub fn cut_network<O: Object>(
 
 /// Adds a port to this node.
 fn add_port<O: Object>(
-    shared: &Shared<O>,
+    shared: &SharedNetwork<O>,
     node: Proc,
     ports: &mut Vec<WorldPort<O>, O::Alloc>,
 ) -> Result<(), Fault> {
@@ -84,7 +84,7 @@ fn add_port<O: Object>(
 
 /// Adds a port to each of these two nodes.
 fn add_ports<O: Object>(
-    shared: &Shared<O>,
+    shared: &SharedNetwork<O>,
     first: Proc,
     second: Proc,
     ports: &mut Vec<WorldPort<O>, O::Alloc>,
@@ -96,7 +96,7 @@ fn add_ports<O: Object>(
 /// Returns a client with a port to each of two nodes.
 pub fn client_of<O: Object>(
     alloc: O::Alloc,
-    shared: &Shared<O>,
+    shared: &SharedNetwork<O>,
     first: Proc,
     second: Proc,
 ) -> Result<Client<WorldPort<O>>, Fault> {
@@ -108,7 +108,7 @@ pub fn client_of<O: Object>(
 /// Makes the calls, and lets all nodes hear each other in between. Returns the results.
 fn story_of<O: Object>(
     client: &mut Client<WorldPort<O>>,
-    shared: &Shared<O>,
+    shared: &SharedNetwork<O>,
     first: Proc,
 ) -> Result<RetrySummary, Fault> {
     let added = client.call(Counters::add(0, 5).as_slice())?;
@@ -127,7 +127,7 @@ fn story_of<O: Object>(
 /// Runs the scenario with a client that tries these nodes.
 fn call_over<O: Object>(
     alloc: O::Alloc,
-    shared: &Shared<O>,
+    shared: &SharedNetwork<O>,
     first: Proc,
     second: Proc,
 ) -> Result<RetrySummary, Fault> {
@@ -157,7 +157,7 @@ fn unanswered_polls<P: Port>(client: &Client<P>) -> u64 {
 
 /// Lets all nodes hear each other again: this one calls for the others, and the network takes its turns. Returns the number of
 /// calls that the node has committed then, and the number in the order.
-fn heal<O: Object>(shared: &Shared<O>, node: Proc) -> Result<(u64, u64), Fault> {
+fn heal<O: Object>(shared: &SharedNetwork<O>, node: Proc) -> Result<(u64, u64), Fault> {
     let Ok(mut network) = shared.try_borrow_mut() else {
         return Err(Fault::NoAnswer);
     };

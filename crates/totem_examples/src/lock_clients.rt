@@ -10,8 +10,8 @@ use std::cell::RefCell;
 use std::io;
 use std::rc::Rc;
 use totem_ring::{
-    Client, Fault, Fixed, Network, Object, Outcome, Port, ProcSet, ReplyParts, Shared, World,
-    WorldPort,
+    Client, Fault, Fixed, Network, Object, Outcome, Port, ProcSet, ReplyParts, SharedNetwork,
+    World, WorldPort,
 };
 
 /// The most polls of a node for one call.
@@ -63,14 +63,14 @@ fn ask<P: Port>(client: &mut Client<P>, operation: LockOperation) -> Result<Repl
 }
 
 /// Returns a network of three nodes that hear each other.
-fn network_of<O: Object>(alloc: O::Alloc, group: Fixed) -> Result<Shared<O>, Fault> {
+fn network_of<O: Object>(alloc: O::Alloc, group: Fixed) -> Result<SharedNetwork<O>, Fault> {
     let network = Network::new(World::<O>::new(alloc, group)?);
     Ok(Rc::new(alloc, RefCell::new(network))?)
 }
 
 /// Adds a port to the node of this number.
 fn add_port<O: Object>(
-    shared: &Shared<O>,
+    shared: &SharedNetwork<O>,
     group: Fixed,
     number: u8,
     ports: &mut Vec<WorldPort<O>, O::Alloc>,
@@ -81,7 +81,7 @@ fn add_port<O: Object>(
 
 /// Adds a port to each of these two nodes.
 fn add_ports<O: Object>(
-    shared: &Shared<O>,
+    shared: &SharedNetwork<O>,
     group: Fixed,
     (first, second): (u8, u8),
     ports: &mut Vec<WorldPort<O>, O::Alloc>,
@@ -93,7 +93,7 @@ fn add_ports<O: Object>(
 /// Returns the client of this number, which tries these two nodes.
 fn client_of<O: Object>(
     alloc: O::Alloc,
-    shared: &Shared<O>,
+    shared: &SharedNetwork<O>,
     group: Fixed,
     number: u32,
     nodes: (u8, u8),
@@ -104,7 +104,7 @@ fn client_of<O: Object>(
 }
 
 /// Cuts this node off: only the others hear each other from now on.
-fn cut_off<O: Object>(shared: &Shared<O>, group: Fixed, node: u8) -> Result<(), Fault> {
+fn cut_off<O: Object>(shared: &SharedNetwork<O>, group: Fixed, node: u8) -> Result<(), Fault> {
     let others = group
         .everybody()
         .without_members(ProcSet::singleton(group.proc(node)?));
@@ -117,7 +117,7 @@ fn cut_off<O: Object>(shared: &Shared<O>, group: Fixed, node: u8) -> Result<(), 
 
 /// Makes the calls and returns their replies.
 fn call_all<O: Object>(
-    shared: &Shared<O>,
+    shared: &SharedNetwork<O>,
     group: Fixed,
     one: &mut Client<WorldPort<O>>,
     two: &mut Client<WorldPort<O>>,
@@ -137,7 +137,7 @@ fn call_all<O: Object>(
 /// Runs the scenario with this client and another one that tries nodes 2 and 3.
 fn call_with<O: Object>(
     alloc: O::Alloc,
-    shared: &Shared<O>,
+    shared: &SharedNetwork<O>,
     group: Fixed,
     one: &mut Client<WorldPort<O>>,
 ) -> Result<LockSummary, Fault> {
@@ -150,7 +150,7 @@ fn call_with<O: Object>(
 /// Runs the scenario with two clients of these nodes.
 fn call_over<O: Object>(
     alloc: O::Alloc,
-    shared: &Shared<O>,
+    shared: &SharedNetwork<O>,
     group: Fixed,
 ) -> Result<LockSummary, Fault> {
     let mut one = client_of(alloc, shared, group, 1, (1, 2))?;

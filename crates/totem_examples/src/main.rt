@@ -8,17 +8,17 @@
 //!   the command line has words.
 //! - `threads` has nodes and clients on threads, and a counter.
 //! - `terminal` shows which commands say how long they took.
-//! - `generated` compares what commands report of the same scripts.
+//! - `commands_agree` compares what commands report of the same scripts.
 //! - `data` runs what the program `totem` runs: scripts, sweeps, listings of frames, records, command lines. `command` runs a
 //!   command line, `expected` and `repeated` judge what it prints, `kind` has the kinds, and `hex_lines` reads bytes.
 #![tactic(auto)]
 
 mod client;
 mod command;
+mod commands_agree;
 mod counter;
 mod data;
 mod expected;
-mod generated;
 mod hex_lines;
 mod kind;
 mod lock_clients;
@@ -80,6 +80,6 @@ fn print_all_results<R: Files + AllocGlobal + Print + Threads + Wait + Clock + S
     lock_threads::print_results(rt)?;
     threads::print_results(rt)?;
     terminal::print_results(rt)?;
-    generated::print_results(rt)?;
+    commands_agree::print_results(rt)?;
     data::run_all(rt)
 }

@@ -13,8 +13,8 @@
 use crate::client::{client_of, count_of, cut_network};
 use std::io;
 use totem_ring::{
-    Client, Counters, Event, Fault, Fixed, Kind, Object, Operation, Port, Proc, ProcSet, Shared,
-    WorldPort,
+    Client, Counters, Event, Fault, Fixed, Kind, Object, Operation, Port, Proc, ProcSet,
+    SharedNetwork, WorldPort,
 };
 
 /// The number of times that a call without an answer is tried again.
@@ -61,7 +61,7 @@ fn print_summary<R: Print>(rt: &R, summary: &OutageSummary) -> io::Result<()> {
 }
 
 /// Lets only these nodes hear each other from now on.
-fn cut<O: Object>(shared: &Shared<O>, nodes: ProcSet) -> Result<(), Fault> {
+fn cut<O: Object>(shared: &SharedNetwork<O>, nodes: ProcSet) -> Result<(), Fault> {
     let Ok(mut network) = shared.try_borrow_mut() else {
         return Err(Fault::NoAnswer);
     };
@@ -70,7 +70,7 @@ fn cut<O: Object>(shared: &Shared<O>, nodes: ProcSet) -> Result<(), Fault> {
 }
 
 /// Makes a node time out.
-fn time_out<O: Object>(shared: &Shared<O>, node: Proc, kind: Kind) -> Result<(), Fault> {
+fn time_out<O: Object>(shared: &SharedNetwork<O>, node: Proc, kind: Kind) -> Result<(), Fault> {
     let Ok(mut network) = shared.try_borrow_mut() else {
         return Err(Fault::NoAnswer);
     };
@@ -78,7 +78,7 @@ fn time_out<O: Object>(shared: &Shared<O>, node: Proc, kind: Kind) -> Result<(),
 }
 
 /// Stops a node.
-fn stop<O: Object>(shared: &Shared<O>, node: Proc) -> Result<(), Fault> {
+fn stop<O: Object>(shared: &SharedNetwork<O>, node: Proc) -> Result<(), Fault> {
     let Ok(mut network) = shared.try_borrow_mut() else {
         return Err(Fault::NoAnswer);
     };
@@ -100,7 +100,7 @@ fn again<P: Port>(client: &mut Client<P>) -> Result<u64, Fault> {
 /// Makes the calls, and changes the network between them. At first the node `alone` hears nobody; the node `stopping` stops.
 fn story_of<O: Object>(
     client: &mut Client<WorldPort<O>>,
-    shared: &Shared<O>,
+    shared: &SharedNetwork<O>,
     fixed: Fixed,
     alone: Proc,
     stopping: Proc,
@@ -129,7 +129,7 @@ fn story_of<O: Object>(
 /// Runs the scenario with a client that tries these nodes, the first of which hears nobody.
 fn call_over<O: Object>(
     alloc: O::Alloc,
-    shared: &Shared<O>,
+    shared: &SharedNetwork<O>,
     fixed: Fixed,
     one: Proc,
     two: Proc,

@@ -73,5 +73,6 @@ pub use ring_timers::{Periods, StepOutcome, Timers, timers_law};
 pub use ring_trace::{ReplyForm, ReplyVocabulary, Selection, TraceFormat, TraceOptions, trace_of};
 pub use ring_wire::{Frame, decode_frame};
 pub use ring_world_port::{
-    Event, Item, Network, Noise, Pump, Shared, Told, World, WorldPort, stopped_for_memory_law,
+    Event, Item, Network, Noise, Pump, SharedNetwork, Told, World, WorldPort,
+    stopped_for_memory_law,
 };

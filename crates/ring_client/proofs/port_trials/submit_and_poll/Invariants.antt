@@ -4,4 +4,4 @@ use Rattle.ring_client.specs.Asking.{asked_after_submit}
 use Rattle.ring_client.proofs.port_trials.submit_and_poll.Given as goal
 
 abbrev pub invariant-loop : goal.invariant-loop
-invariant-loop g l = g.P.Port.trace_options_of l.port ≡ record (asked_after_submit l.fn.call) { polls = l.counter }
+invariant-loop g l = g.P.Port.asked_of l.port ≡ record (asked_after_submit l.fn.call) { polls = l.counter }

@@ -7,7 +7,7 @@ pub returns-in-Some : goal.returns-in-Some
 returns-in-Some g c =
     let call = just_submitted c.args.request.now.client c.args.request.now.number c.args.request.now.op in (
       c.in-Some.ensures.told,
-      answered_at g.P.Port.trace_options_of call c.args.turns c.args.ports.now c.loop-i.ports
+      answered_at g.P.Port.asked_of call c.args.turns c.args.ports.now c.loop-i.ports
           c.loop-i.i c.submit_and_poll.new.port (asked_after_submit c.in-Ok.call) c.in-Ok.ensures.ok c.in-Some.answer c.loop-i.invariant
           (search rules) c.in-Some.ensures.answered,
     )
@@ -15,5 +15,5 @@ returns-in-Some g c =
 pub loop-i-preserved : goal.loop-i-preserved
 loop-i-preserved g c =
     let call = just_submitted c.args.request.now.client c.args.request.now.number c.args.request.now.op in
-    asked_more g.P.Port.trace_options_of call c.args.turns c.args.ports.now c.loop-i.ports c.loop-i.i c.submit_and_poll.new.port
+    asked_more g.P.Port.asked_of call c.args.turns c.args.ports.now c.loop-i.ports c.loop-i.i c.submit_and_poll.new.port
     (asked_after_submit c.in-Ok.call) c.in-Ok.ensures.ok c.loop-i.invariant (search rules) c.in_default-submit_and_poll.ensures.in_vain

@@ -30,7 +30,7 @@ returns-clause-dropped g c =
     let is = c.in_ok-snapshot.ensures.snapshot
     ∙ ap (λ b. snapshot_if_due object b c.log-2.result.now c.args.sessions.now) (c.is_exchange_closed-closed.ensures c.requires.consistent)
     ∙ ap (λ l. snapshot_if_due object (is_closed replication.group replication.epochs) l c.args.sessions.now) log in
-    c.in_ok-leaving.ensures.dropped ∙ ap (option_map (λ _. committed_log replication.held.log)) is
+    c.in_ok-log_being_dropped.ensures.dropped ∙ ap (option_map (λ _. committed_log replication.held.log)) is
 
 pub returns-clause-ok : goal.returns-clause-ok
 returns-clause-ok g c =
@@ -40,4 +40,4 @@ returns-clause-ok g c =
     let is = c.in_ok-snapshot.ensures.snapshot
     ∙ ap (λ b. snapshot_if_due object b c.log-2.result.now c.args.sessions.now) (c.is_exchange_closed-closed.ensures c.requires.consistent)
     ∙ ap (λ l. snapshot_if_due object (is_closed replication.group replication.epochs) l c.args.sessions.now) log in
-    c.in_ok-leaving.ensures.ok ∙ ap (replication_trimmed replication) is
+    c.in_ok-log_being_dropped.ensures.ok ∙ ap (replication_trimmed replication) is

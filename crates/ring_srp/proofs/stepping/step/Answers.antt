@@ -18,14 +18,14 @@ pub apply_and_propose-requires : goal.apply_and_propose-requires
 apply_and_propose-requires g c = subst (λ (a : Transition g.row.A.Denot). MayApply c.args.running_core.now a) (sym c.decide-chosen_transition.ensures)
     (allowed c.args.running_core.now c.args.input c.requires.fits)
 
-pub give_outputs-requires-clause-ring : goal.give_outputs-requires-clause-ring
-give_outputs-requires-clause-ring g c =
+pub deliver_and_install-requires-clause-ring : goal.deliver_and_install-requires-clause-ring
+deliver_and_install-requires-clause-ring g c =
     c.ring_progress-before.ensures.ring
     ∙ sym (ap (λ (x : Core g.row.A.Denot). x.installed.ring) c.in_ok-apply_and_propose.ensures.core
     ∙ ap (λ (x : Configuration). x.ring) (done_installed c.args.running_core.now (transition_of c.decide-chosen_transition.result)))
 
-pub give_outputs-requires-clause-mark : goal.give_outputs-requires-clause-mark
-give_outputs-requires-clause-mark g c =
+pub deliver_and_install-requires-clause-mark : goal.deliver_and_install-requires-clause-mark
+deliver_and_install-requires-clause-mark g c =
     may_give _ _ (transition_of c.decide-chosen_transition.result) _ (subst (λ (a : Transition g.row.A.Denot). MayApply c.args.running_core.now a) (sym c.decide-chosen_transition.ensures)
     (allowed c.args.running_core.now c.args.input c.requires.fits)) c.in_ok-apply_and_propose.ensures.core c.ring_progress-before.ensures.front
     c.ring_progress-before.ensures.safe c.ring_progress-before.ensures.led
@@ -34,17 +34,17 @@ pub returns-clause-given : goal.returns-clause-given
 returns-clause-given g c =
     let a = transition_of c.decide-chosen_transition.result in
     let sends = c.apply_and_propose.new.sends.items in
-    subst (λ (s : StepResult g.row.A.Denot). IfOk c.give_outputs.result (λ told. IsGiven s.outs sends told.items))
+    subst (λ (s : StepResult g.row.A.Denot). IfOk c.deliver_and_install.result (λ told. IsGiven s.outs sends told.items))
     (decided_step c.args.running_core.now a c.args.input c.decide-chosen_transition.ensures)
     (told_behind c.args.running_core.now c.apply_and_propose.new.running_core a c.args.sends.now.items sends
-    c.ring_progress-before.result.ring c.ring_progress-before.result.front c.ring_progress-before.result.mark c.give_outputs.result
+    c.ring_progress-before.result.ring c.ring_progress-before.result.front c.ring_progress-before.result.mark c.deliver_and_install.result
     c.requires.empty c.in_ok-apply_and_propose.ensures.core c.in_ok-apply_and_propose.ensures.sends
-    c.ring_progress-before.ensures.ring c.ring_progress-before.ensures.front c.ring_progress-before.ensures.mark c.give_outputs.ensures.told)
+    c.ring_progress-before.ensures.ring c.ring_progress-before.ensures.front c.ring_progress-before.ensures.mark c.deliver_and_install.ensures.told)
 
 pub returns-clause-core : goal.returns-clause-core
 returns-clause-core g c =
     let a = transition_of c.decide-chosen_transition.result in
-    ok_to c.give_outputs.result _ _ _
+    ok_to c.deliver_and_install.result _ _ _
     (delivered_core c.args.running_core.now c.apply_and_propose.new.running_core a c.in_ok-apply_and_propose.ensures.core
     ∙ ap (λ (s : StepResult g.row.A.Denot). s.core) (decided_step c.args.running_core.now a c.args.input c.decide-chosen_transition.ensures))
-    c.give_outputs.ensures.core
+    c.deliver_and_install.ensures.core

@@ -17,11 +17,11 @@ pub returns-clause-core : goal.returns-clause-core
 returns-clause-core g c =
     let n = c.args.fixed.count in
     let first = c.first_token-token.ensures ∙ ap (λ (p : Configuration). first_token p.ring) c.formed_ring.ensures in
-    ok_always c.join_outputs.result (first_core n c.args.running_core.now c.visit.new.self c.first_token-token.result c.in_ok-visit.ensures.core c.requires first)
+    ok_always c.concatenate_outputs.result (first_core n c.args.running_core.now c.visit.new.self c.first_token-token.result c.in_ok-visit.ensures.core c.requires first)
 
 pub returns-clause-outs : goal.returns-clause-outs
 returns-clause-outs g c =
     let n = c.args.fixed.count in
     let first = c.first_token-token.ensures ∙ ap (λ (p : Configuration). first_token p.ring) c.formed_ring.ensures in
-    first_alone n c.args.running_core.now c.first_token-token.result c.empty_list-sends.result.items c.visit.new.sends.items c.empty_list.result.items c.join_outputs.result
-    c.empty_list-sends.ensures c.in_ok-visit.ensures.sends c.empty_list.ensures c.join_outputs.ensures.ok c.requires first
+    first_alone n c.args.running_core.now c.first_token-token.result c.empty_list-sends.result.items c.visit.new.sends.items c.empty_list.result.items c.concatenate_outputs.result
+    c.empty_list-sends.ensures c.in_ok-visit.ensures.sends c.empty_list.ensures c.concatenate_outputs.ensures.ok c.requires first

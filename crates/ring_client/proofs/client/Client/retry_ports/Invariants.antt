@@ -5,6 +5,6 @@ use Rattle.ring_client.proofs.client.Client.retry_ports.Given as goal
 
 abbrev pub invariant-loop : goal.invariant-loop
 invariant-loop g l = record {
-  in_vain : AreUnansweredTries g.P.Port.trace_options_of l.op l.counter l.fn.self l.self;
+  in_vain : AreUnansweredTries g.P.Port.asked_of l.op l.counter l.fn.self l.self;
   same_number : l.self.next ≡ l.fn.self.next;
 }

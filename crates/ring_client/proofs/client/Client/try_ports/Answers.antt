@@ -47,7 +47,7 @@ returns-in_err-reply-in-TicketAnswer-clause-refused g c =
     let told = rw (c.as_mut_slice.ensures.value, c.in_err-reply-in-TicketAnswer.ensures.refused) at c.in-TicketAnswer.ensures in
     let back = take_at new (drop (length new) old.items) old.len (told.1.same_length ∙ sym old.ok.0) in
     let p = err_from_is_err_and c.from_residual.result c.from_residual.ensures.1 in
-    rw (p.1, p.2, ← c.self.view_is, back) (told_refusal g.P.Port.trace_options_of _ _ c.args.op c.in_err-reply-in-TicketAnswer.field-0.0 told.0 told.1 refl)
+    rw (p.1, p.2, ← c.self.view_is, back) (told_refusal g.P.Port.asked_of _ _ c.args.op c.in_err-reply-in-TicketAnswer.field-0.0 told.0 told.1 refl)
 
 pub returns-in-Unanswered-clause-refused : goal.returns-in-Unanswered-clause-refused
 returns-in-Unanswered-clause-refused g c =

@@ -35,8 +35,8 @@ returns-clause-ok g c =
       restored = s.restored;
       has_installed = s.has_installed;
     } in
-    let clock = noted c.args.input c.as_slice.result.now did.sends c.timeout_in-timeout.result c.is_token-is_token.result c.step_outcome.result s.clock
-    c.note_step.new.self c.timeout_in-timeout.ensures c.is_token-is_token.ensures (c.as_slice.ensures.value ∙ e.sends) c.step_outcome.ensures c.note_step.ensures in
+    let clock = noted c.args.input c.as_slice.result.now did.sends c.timeout_in-timeout.result c.is_token_or_commit_token-is_token.result c.step_outcome.result s.clock
+    c.note_step.new.self c.timeout_in-timeout.ensures c.is_token_or_commit_token-is_token.ensures (c.as_slice.ensures.value ∙ e.sends) c.step_outcome.ensures c.note_step.ensures in
     let other = c.are_different_rings-has_installed in
     let installs_new : other.result ≡ installs s.node.core c.step.new.self.core = rw (c.ring-ring_before.ensures, c.ring.ensures) at other.ensures in
     let installed = subst (λ (n : Node _). other.result ≡ installs s.node.core n.core) e.ok installs_new in

@@ -14,8 +14,8 @@ returns-in-Ok-clause-acts g c =
     let e = c.in-Ok.ensures in
     let step = node_step g.O.Object.sequential s.node c.args.input in
     let sends_are = c.as_slice-sends.ensures.value ∙ e.sends in
-    let clock = noted c.args.input c.as_slice-sends.result.now step.sends c.timeout_in-timeout.result c.is_token-is_token.result c.step_outcome.result s.clock
-    c.note_step.new.self c.timeout_in-timeout.ensures c.is_token-is_token.ensures sends_are c.step_outcome.ensures c.note_step.ensures in
+    let clock = noted c.args.input c.as_slice-sends.result.now step.sends c.timeout_in-timeout.result c.is_token_or_commit_token-is_token.result c.step_outcome.result s.clock
+    c.note_step.new.self c.timeout_in-timeout.ensures c.is_token_or_commit_token-is_token.ensures sends_are c.step_outcome.ensures c.note_step.ensures in
     let many : c.len-answers.result ≡ length step.answers = omega (arith, c.len-answers.ensures, c.in-Ok.encoded.outs.answers.ok.0, ap length e.answers) in
     let counts = counted c.args.input c.as_slice-sends.result.now step.sends _ (length step.answers) _ _ _ s.counts c.note_step-2.new.self
     c.of-counted.ensures sends_are many e.installed c.note_step-2.ensures in

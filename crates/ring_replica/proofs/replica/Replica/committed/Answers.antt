@@ -14,7 +14,7 @@ pub slice_bounds-result-end : goal.slice_bounds-result-end
 slice_bounds-result-end g c =
     let few = told-bounds c.self.invariant.kept (c.committed_calls.ensures ∙ ap (λ (l : Log _). committed_calls l) (c.log_before_step-log.ensures
     ∙ ap (λ (h : HeldLog _). log_before_step h c.self.inside.log_being_dropped) c.stored_log.ensures.held)) in
-    omega (arith, few, length-take (c.self.inside.committed - c.self.inside.trimmed) c.committed_calls.result.now)
+    omega (arith, few, length-take (c.self.inside.committed_len - c.self.inside.trimmed) c.committed_calls.result.now)
 
 pub returns : goal.returns
 returns g c =

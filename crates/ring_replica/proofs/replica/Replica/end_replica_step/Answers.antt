@@ -25,7 +25,7 @@ invariant_of-self g c =
     let told = c.history_after_step.ensures ∙ ap (λ epochs. ghost_state_after_step ghost_state epochs more c.args.answers.now) c.epochs.ensures in
     let log_is = c.log-log.ensures ∙ ap (λ (h : HeldLog _). h.log) c.stored_log-2.ensures.held in
     subst (λ (l : Option (Log _)). IsCounted g.O.Object.sequential c.end_step.new.self s.sessions c.record_committed_answers.new.self l c.length-self-inside.result
-    c.committed_length-self-inside.result c.trimmed-self-inside.result s.effects_in_step s.effects_in_step s.stopped c.history_after_step.result.value) (sym c.take_leaving.ensures.taken)
+    c.committed_length-self-inside.result c.trimmed-self-inside.result s.effects_in_step s.effects_in_step s.stopped c.history_after_step.result.value) (sym c.take_dropped_calls.ensures.taken)
     (finished-counted c.self.invariant more c.args.answers.now c.if-self.false (c.stored_log.ensures.log consistent) (steady-known (c.stored_log.ensures.steady consistent))
     c.end_step.ensures c.record_committed_answers.ensures (c.length-self-inside.ensures ∙ ap (λ (l : Log _). log_length l) log_is)
     (c.committed_length-self-inside.ensures ∙ ap (λ (l : Log _). l.committed) log_is) (c.trimmed-self-inside.ensures ∙ ap (λ (l : Log _). l.trimmed) log_is)
@@ -38,12 +38,12 @@ returns g c =
     let more = c.newly_committed_calls-more.result.now in
     let told = c.history_after_step.ensures ∙ ap (λ epochs. ghost_state_after_step ghost_state epochs more c.args.answers.now) c.epochs.ensures in
     let log_is = c.log-log.ensures ∙ ap (λ (h : HeldLog _). h.log) c.stored_log-2.ensures.held in
-    let behind = c.newly_committed_calls-more.ensures ∙ ap (newly_committed_calls s.committed) (c.current_log.ensures ∙ ap (λ (h : HeldLog _). current_log h s.log_being_dropped) c.stored_log.ensures.held) in
+    let behind = c.newly_committed_calls-more.ensures ∙ ap (newly_committed_calls s.committed_len) (c.current_log.ensures ∙ ap (λ (h : HeldLog _). current_log h s.log_being_dropped) c.stored_log.ensures.held) in
     let runs = ap (λ (v : Replica _). v.stopped) (sym c.self.view_is) ∙ c.if-self.false in
     record {
       replica = ap (λ (l : Option (Log _)). replica_view c.end_step.new.self l c.committed_length-self-inside.result s.stopped c.history_after_step.result.value)
-          c.take_leaving.ensures.taken ∙ done-told c.self.invariant.kept c.args.answers.now c.if-self.false c.self.view_is behind c.end_step.ensures
+          c.take_dropped_calls.ensures.taken ∙ done-told c.self.invariant.kept c.args.answers.now c.if-self.false c.self.view_is behind c.end_step.ensures
           (c.committed_length-self-inside.ensures ∙ ap (λ (l : Log _). l.committed) log_is) told
           ∙ sym (cond-false c.args.self.now.stopped c.args.self.now (replica_done c.args.self.now c.args.answers.now) runs);
-      dropped = c.take_leaving.ensures.calls ∙ left-told c.self.invariant.kept c.self.view_is c.if-self.false;
+      dropped = c.take_dropped_calls.ensures.calls ∙ left-told c.self.invariant.kept c.self.view_is c.if-self.false;
     }

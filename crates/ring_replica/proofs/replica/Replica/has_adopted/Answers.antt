@@ -8,7 +8,7 @@ use Rattle.ring_replica.proofs.replica.Replica.has_adopted.Goals as goal
 
 pub returns : goal.returns
 returns g c =
-    c.is_running_ring.ensures
+    c.is_last_primary_running.ensures
     ∙ ap (is_running_some c.args.running.now) (c.last_primary.ensures
     ∙ ap (λ (l : Log _). l.last) (c.log.ensures ∙ ap (λ (h : HeldLog _). h.log) c.stored_log.ensures.held)
     ∙ last-is c.self.invariant.kept c.self.view_is c.requires.done c.requires.runs c.stored_log.ensures.log)

@@ -93,8 +93,8 @@ invariant_of-self-in_err-trim_if_due g c =
     let s = c.self.inside in
     let b = ready c.self.invariant c.self.view_is c.requires.done c.requires.runs in
     let stays = b.none ∙ sym c.in_err-trim_if_due.ensures.stays in
-    subst (λ (l : Option (Log _)). IsCounted g.O.Object.sequential c.trim_if_due.new.replication c.apply_committed.new.sessions s.tickets l s.log_len_at_step s.committed s.trimmed
-    s.effects s.effects_in_step true s.history.value) stays
+    subst (λ (l : Option (Log _)). IsCounted g.O.Object.sequential c.trim_if_due.new.replication c.apply_committed.new.sessions s.tickets l s.log_len_at_step s.committed_len s.trimmed
+    s.effect_count s.effects_in_step true s.history.value) stays
     (halted-later c.self.invariant c.apply_outputs.new.self c.record_sends.new.self c.trim_if_due.new.replication _ b.none c.apply_outputs.ensures.group c.apply_outputs.ensures.front
     c.record_sends.ensures c.in_err-trim_if_due.ensures.err)
 

@@ -21,7 +21,7 @@ invariant_of-self-2 g c = λ fits.
     let pushed = c.in_ok-push_back.ensures.items in
     kept-as s.fixed _ _ _ _ s.ring _ _ s.mark _ _
     (kept-epochs_with_message s.fixed s.epochs.value s.held s.ring s.stage s.mark s.watermarks.items c.args.message.now
-    (record { ring = s.ring; runs = c.args.runs; me = s.me; committed = c.args.committed }) c.args.pending.now k refl fit c.apply_message.new.stage c.apply_message.new.held
+    (record { ring = s.ring; runs = c.args.runs; me = s.me; committed = c.args.committed_before }) c.args.pending.now k refl fit c.apply_message.new.stage c.apply_message.new.held
     c.watermark_at-places.result c.in_ok-fits.ensures.stage (c.in_ok-fits.ensures.held fit)
     (c.watermark_at-places.ensures ∙ ap (watermark_at c.apply_message.new.stage) c.log.ensures)).0
     c.history_with_message.ensures
@@ -34,7 +34,7 @@ returns-clause-sound g c =
     let k = c.self.invariant (ap (λ (v : Replication _). v.consistent) c.self.view_is ∙ c.requires.consistent) in
     c.in_ok-fits.ensures.fits
     ∙ sound-epochs_with_message s.fixed s.epochs.value s.held s.ring s.stage s.mark s.watermarks.items c.args.message.now
-    (record { ring = s.ring; runs = c.args.runs; me = s.me; committed = c.args.committed }) c.args.pending.now k refl
+    (record { ring = s.ring; runs = c.args.runs; me = s.me; committed = c.args.committed_before }) c.args.pending.now k refl
     ∙ ap (λ (v : Replication _). is_known_log_sound v.group (epochs_with_message c.args.message.now v.epochs)) c.self.view_is
 
 pub returns-clause-due : goal.returns-clause-due
@@ -45,14 +45,14 @@ returns-clause-due g c = λ fits.
     c.in_ok-fits.ensures.due fit
     ∙ ap (λ l. c.args.due.now.items ++ l)
     (due-epochs_with_message s.fixed s.epochs.value s.held s.ring s.stage s.mark s.watermarks.items c.args.message.now
-    (record { ring = s.ring; runs = c.args.runs; me = s.me; committed = c.args.committed }) c.args.pending.now k refl fit
+    (record { ring = s.ring; runs = c.args.runs; me = s.me; committed = c.args.committed_before }) c.args.pending.now k refl fit
     ∙ ap (λ (v : Replication _).
     due_sends_on_message (record {
       group = v.group;
       me = v.me;
       running = None;
       pending = c.args.pending.now;
-      committed = c.args.committed;
+      committed = c.args.committed_before;
       trimmed = v.held.log.trimmed;
       snapshot = v.held.snapshot;
     }) c.args.runs v.epochs c.args.message.now
@@ -73,7 +73,7 @@ returns-clause-onward g c = λ fits.
     subst (λ (v : Replication _). IsHeldLogContinued v.held c.commit_covered.new.held (known_log_of v.group v.epochs) (known_log_of s.fixed c.history_with_message.result.value)) c.self.view_is
     (goes-as s.fixed s.held _ c.commit_covered.new.held (known_log_of s.fixed s.epochs.value) (epochs_with_message c.args.message.now s.epochs.value) c.history_with_message.result.value
     (kept-epochs_with_message s.fixed s.epochs.value s.held s.ring s.stage s.mark s.watermarks.items c.args.message.now
-    (record { ring = s.ring; runs = c.args.runs; me = s.me; committed = c.args.committed }) c.args.pending.now k refl fit c.apply_message.new.stage c.apply_message.new.held
+    (record { ring = s.ring; runs = c.args.runs; me = s.me; committed = c.args.committed_before }) c.args.pending.now k refl fit c.apply_message.new.stage c.apply_message.new.held
     c.watermark_at-places.result c.in_ok-fits.ensures.stage (c.in_ok-fits.ensures.held fit)
     (c.watermark_at-places.ensures ∙ ap (watermark_at c.apply_message.new.stage) c.log.ensures)).1
     (c.commit_covered.ensures.held ∙ ap (λ rs. record c.apply_message.new.held { log = committed_upto c.apply_message.new.held.log (covered_places s.mark 0 rs) }) pushed)

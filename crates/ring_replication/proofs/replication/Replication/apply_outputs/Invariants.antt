@@ -11,9 +11,9 @@ invariant-loop-out g l = record {
   walked : IsWalked (record {
     group = l.fn.self.group;
     me = l.fn.self.me;
-    running = l.running;
+    running = l.running_ring;
     pending = l.pending;
-    committed = l.committed;
+    committed = l.committed_before;
     trimmed = l.fn.self.held.log.trimmed;
     snapshot = l.fn.self.held.snapshot;
   }) l.fn.self.epochs l.fn.self.held (take l.out-index l.outs) l.self.consistent l.self.epochs l.self.held l.fn.due.items l.due.items;

@@ -15,7 +15,7 @@ invariant_of-self-in-Ok-1 g c =
 
 pub returns-in-Ok-clause-given : goal.returns-in-Ok-clause-given
 returns-in-Ok-clause-given g c =
-    subst (λ (x : Core g.row.A.Denot). IsGiven (ring_step x (FrameInput c.args.frame.now)).outs c.receive.new.sends.items c.in-Ok.told.items)
+    subst (λ (x : Core g.row.A.Denot). IsGiven (ring_step x (FrameInput c.args.frame.now)).outs c.step_on_frame.new.sends.items c.in-Ok.told.items)
     (runs_as _ _ c.in-Some.running_core _ c.self.view_is c.in-Some.is) c.in-Ok.ensures.given
 
 pub returns-in-Ok-clause-ok : goal.returns-in-Ok-clause-ok

@@ -6,11 +6,11 @@ use Rattle.ring_trace.proofs.tracer.Tracer.pump.Goals as goal
 
 pub loop-preserved : goal.loop-preserved
 loop-preserved g c =
-    let turn = one_turn g.O.Object.sequential c.loop.self.run c.run_line_silently.new.self c.in-Some.pair
+    let turn = one_turn g.O.Object.sequential c.loop.self.run c.run_line_silently.new.self c.in-Some.open_copy
     (rw c.foresee_turn.ensures at c.in_ok-run_line_silently.ensures.ends)
     (sym c.first_open_copy.ensures ∙ c.in-Some.is) in
-    one_more g.O.Object.sequential c.loop.counter c.args.self.now.run c.loop.self.run c.trace_turn.new.self.run c.loop.invariant
-    (subst (λ (r : RunView g.row.O-Alloc.Denot). IsTurnDone g.O.Object.sequential c.loop.self.run r) (sym c.trace_turn.ensures) turn)
+    one_more g.O.Object.sequential c.loop.counter c.args.self.now.run c.loop.self.run c.report_copy.new.self.run c.loop.invariant
+    (subst (λ (r : RunView g.row.O-Alloc.Denot). IsTurnDone g.O.Object.sequential c.loop.self.run r) (sym c.report_copy.ensures) turn)
 
 pub returns : goal.returns
 returns g c =

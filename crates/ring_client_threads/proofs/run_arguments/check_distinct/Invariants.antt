@@ -1,5 +1,0 @@
-use Rattle.ring_client_threads.proofs.Distinct.{AreApartBelow}
-use Rattle.ring_client_threads.proofs.run_arguments.check_distinct.Given as goal
-
-abbrev pub invariant-loop-i : goal.invariant-loop-i
-invariant-loop-i l = AreApartBelow l.numbers l.i

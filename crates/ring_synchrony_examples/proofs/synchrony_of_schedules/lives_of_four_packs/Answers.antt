@@ -1,8 +1,0 @@
-use Rattle.std.proofs.Common.{refl}
-use Rattle.ring_base.specs.Processors.{elements}
-use Rattle.ring_core_spec.specs.Stepping.{ring_step}
-use Rattle.ring_synchrony_examples.proofs.synchrony_of_schedules.lives_of_four_packs.Goals as goal
-
-pub returns : goal.returns
-unfolding ring_step elements
-returns c = refl
