@@ -98,8 +98,7 @@ impl<O: Object> Pump<O> {
 
     /// Returns the first open copy, or `None` if none is open.
     ///
-    /// It is a copy of the earliest frame that has an open copy, and of these the one to the smallest receiver. It stays
-    /// open.
+    /// Of the open copies of the earliest frame it is the one to the smallest receiver. It stays open.
     ///
     /// Formats: Pump
     pub fn first_open_copy(&self) -> Option<OpenCopy>
