@@ -269,8 +269,8 @@ impl<A: Allocator + Copy + Drop> LineFrames<A> {
 
     /// Stores the frames in order: as bytes, or as they are if an allocation for the bytes fails.
     ///
-    /// So it can't fail. Each frame must be within the limits of its format. `text` is a scratch buffer that must have a capacity of at least
-    /// 8,192 bytes; its contents are unspecified afterwards.
+    /// So it can't fail. Each frame must be within the limits of its format. `text` is a scratch buffer that must have
+    /// a capacity of at least 8,192 bytes; its contents are unspecified afterwards.
     ///
     /// Rules: The book and the threads 9
     /// Formats: Frames
