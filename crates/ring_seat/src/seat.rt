@@ -112,9 +112,9 @@ impl<A: Allocator + Copy + Drop> Seat<A> {
         self.clock.note_taken_token();
     }
 
-    /// Takes the outbox, with its capacity, and leaves an empty one in the seat.
+    /// Removes and returns the outbox, with its frames and its capacity, and leaves an empty one in the seat.
     ///
-    /// Does not allocate.
+    /// [`put_outbox`](Seat::put_outbox) puts it back, so that its capacity is used again. Does not allocate.
     ///
     /// Rules: The book and the threads 21
     pub fn take_outbox(&mut self) -> Outbox<A>
@@ -124,7 +124,7 @@ impl<A: Allocator + Copy + Drop> Seat<A> {
         mem::replace(&mut self.outbox, none)
     }
 
-    /// Puts an outbox back into the seat.
+    /// Puts an outbox into the seat, as it is.
     ///
     /// The one there is dropped. Does not allocate.
     ///
