@@ -197,15 +197,17 @@ impl<O: Object, K: BookName<O::Alloc>> HostOf<Cell<O, K>, Book<O, K>, O::Alloc> 
     /// Runs one turn of the seat's node: a timeout that is due, or else the first item of its inbox.
     ///
     /// Returns the number of dropped copies and the node's committed length, dropped places included, which it
-    /// publishes on the seat. A turn that finds nothing yields and publishes nothing.
+    /// publishes on the seat. A turn that finds nothing yields, publishes nothing, and returns 0 and `None`.
     ///
     /// The seat must be a node's own seat of this host. [`Seat::tick`] counts the turn on its clock, even if the turn
     /// fails. [`Seat::take`] restarts the timeouts if the item is a token or a commit token that the step doesn't
     /// ignore. Waits for the locks of the node and of the book.
     ///
-    /// Errors: `Memory` or `Stranger` if the item can't be read or isn't in the book; then `BookFull`, or `Memory` for
-    /// the place; then those of the node's step: `Stranger`, `Stopped`, or `Memory`, which leaves the node stopped. A
-    /// turn that fails publishes nothing, and the timeout or item that it took is spent.
+    /// Errors, in this order: `Memory` if an allocation fails while the item is read, or `Stranger` if its bytes aren't
+    /// a frame; `Stranger` if the book doesn't have it for this node; `BookFull`, or `Memory` for the place; then those
+    /// of the node's step: `Stranger`, `Stopped`, or `Memory`, which leaves the node stopped, with its stop in the book.
+    /// A turn that fails before the step leaves the node unchanged. Any turn that fails sends and publishes nothing, and
+    /// the timeout or item that it took is spent.
     ///
     /// Rules: The book and the threads 21 and 22, 30 to 32
     pub fn turn<W: Wait>(&self, rt: &W, seat: &mut Seat<O::Alloc>) -> Result<Turn, Fault>
@@ -283,7 +285,7 @@ impl<O: Object, K: BookName<O::Alloc>> HostOf<Cell<O, K>, Book<O, K>, O::Alloc> 
     ///
     /// If there is an answer, some run of the group issues the ticket and has this answer to it. The result may be
     /// `None` forever, for example if the node stops, the book is full or the node didn't give the ticket, so a caller
-    /// should limit its polls. Waits for the book's lock.
+    /// should limit its polls. That the ticket is one of this host isn't checked. Waits for the book's lock.
     ///
     /// Rules: The book and the threads 26
     pub fn poll<W: Wait>(&self, rt: &W, ticket: &HostTicket) -> Option<Answer>
