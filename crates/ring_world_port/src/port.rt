@@ -25,8 +25,9 @@ pub type Shared<O: Object> = Rc<RefCell<Network<O>>, O::Alloc>;
 
 /// A port to a node of a world.
 ///
-/// The ports to its nodes share one network. Each poll that finds no answer makes the network perform a turn. While another holder has the network borrowed, a
-/// submit is refused with `NoAnswer`, and a poll finds no answer and performs no turn.
+/// The ports to its nodes share one network. Each poll that finds no answer makes the network perform a turn. While
+/// another holder has the network borrowed, a submit is refused with `NoAnswer`, and a poll finds no answer and
+/// performs no turn.
 ///
 /// Rules: Clients 2 and 8
 #[derive(Drop)]
