@@ -130,6 +130,8 @@ impl<A: Allocator + Copy + Drop> Line<A> {
 
     /// Returns the line's number in the book's list, counted from 0.
     ///
+    /// Does not allocate.
+    ///
     /// Rules: The book and the threads 10
     pub fn number(&self) -> u32
         ensures { result ≡ self.now.number }
@@ -139,6 +141,8 @@ impl<A: Allocator + Copy + Drop> Line<A> {
 
     /// Returns the processor whose node ran the line's step or took the submitted call.
     ///
+    /// Does not allocate.
+    ///
     /// Rules: The book and the threads 9
     pub fn node(&self) -> Proc
         ensures { result ≡ self.now.step.node }
@@ -147,6 +151,8 @@ impl<A: Allocator + Copy + Drop> Line<A> {
     }
 
     /// Returns the line's event: the call, a reference to the frame, noise, the kind of the timeout, or the stop.
+    ///
+    /// Does not allocate.
     ///
     /// Rules: The book and the threads 9
     pub fn cause(&self) -> &Cause<A>
@@ -158,7 +164,7 @@ impl<A: Allocator + Copy + Drop> Line<A> {
     /// Returns the frames that the line's step sent, each with its receivers, in the order of sending.
     ///
     /// A submit has none, and neither has a stop. The index of a frame in this list, counted from 0, is the `place` in
-    /// its `FrameRef`.
+    /// its `FrameRef`. Does not allocate.
     ///
     /// Rules: The book and the threads 9 and 10
     pub fn frames(&self) -> &LineFrames<A>
@@ -169,7 +175,7 @@ impl<A: Allocator + Copy + Drop> Line<A> {
 
     /// Returns the answers that the node gave in the line's step, each with its ticket, in the order given.
     ///
-    /// A submit has none.
+    /// A submit has none, and neither has a stop. Does not allocate.
     ///
     /// Rules: The book and the threads 9; The replicated log 14
     pub fn answers(&self) -> &[TicketAnswer<A>]
@@ -180,7 +186,8 @@ impl<A: Allocator + Copy + Drop> Line<A> {
 
     /// Returns the calls at the places that the node newly committed in the line's step, in order, including repeats.
     ///
-    /// A submit has none. Places that a restored snapshot replaces aren't among them.
+    /// A submit has none, and neither has a stop. Places that a restored snapshot replaces aren't among them. Does not
+    /// allocate.
     ///
     /// Rules: The book and the threads 9; The replicated log 12
     pub fn committed(&self) -> &[Call<A>]
