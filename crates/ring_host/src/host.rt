@@ -205,9 +205,9 @@ impl<O: Object, K: BookName<O::Alloc>> HostOf<Cell<O, K>, Book<O, K>, O::Alloc> 
     ///
     /// Errors, in this order: `Memory` if an allocation fails while the item is read, or `Stranger` if its bytes aren't
     /// a frame; `Stranger` if the book doesn't have it for this node; `BookFull`, or `Memory` for the place; then those
-    /// of the node's step: `Stranger`, `Stopped`, or `Memory`, which leaves the node stopped, with its stop in the book.
-    /// A turn that fails before the step leaves the node unchanged. Any turn that fails sends and publishes nothing, and
-    /// the timeout or item that it took is spent.
+    /// of the node's step: `Stranger`, `Stopped`, or `Memory`, which leaves the node stopped, with its stop in the
+    /// book. A turn that fails before the step leaves the node unchanged. Any turn that fails sends and publishes
+    /// nothing, and the timeout or item that it took is spent.
     ///
     /// Rules: The book and the threads 21 and 22, 30 to 32
     pub fn turn<W: Wait>(&self, rt: &W, seat: &mut Seat<O::Alloc>) -> Result<Turn, Fault>
