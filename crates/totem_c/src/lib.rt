@@ -93,6 +93,8 @@ pub extern "C" fn totem_c_take(alloc: Global, handle: &mut Handle, kind: u8, byt
 
 /// Moves the first unread bytes of the handle's node to the front of `into`, and returns their number.
 ///
+/// These bytes are then no longer unread, and the node is unchanged. What the rest of `into` has is unspecified.
+///
 /// Returns 0 only if no byte is unread, `into` is empty or the handle is empty. Unread bytes may be left even if the
 /// result is less than the length of `into`.
 ///
