@@ -173,7 +173,7 @@ impl<O: Object, K: BookName<O::Alloc>> Book<O, K> {
 
     /// Returns the number of places used and reserved, 0 to 262,144.
     ///
-    /// Each line uses one.
+    /// Each line uses one. Does not allocate.
     ///
     /// Rules: The book and the threads 15
     pub fn places(&self) -> u32
@@ -183,6 +183,8 @@ impl<O: Object, K: BookName<O::Alloc>> Book<O, K> {
     }
 
     /// Reserves a place for a line, so that `enter` doesn't allocate, and returns it for `enter` or `release`.
+    ///
+    /// The number of reserved places grows by one, and the list is unchanged. Dropping the result gives nothing back.
     ///
     /// Errors: `BookFull` exactly if 262,144 places are used or reserved. Otherwise `Memory` if an allocation fails.
     /// Nothing has then changed.
@@ -209,7 +211,7 @@ impl<O: Object, K: BookName<O::Alloc>> Book<O, K> {
 
     /// Gives one reserved place back, so that the number of reserved places falls by one.
     ///
-    /// Does nothing if none is reserved.
+    /// Does nothing if none is reserved. The list is unchanged. Does not allocate.
     ///
     /// Rules: The book and the threads 15 and 17
     pub fn release(&mut self, _place: Place)
@@ -222,11 +224,11 @@ impl<O: Object, K: BookName<O::Alloc>> Book<O, K> {
         }
     }
 
-    /// Checks that the frame at `at` was sent to `node` and that its encoding is `bytes`.
+    /// Checks that the frame at `at` was sent to `node` and that its encoding is exactly `bytes`.
     ///
-    /// The book is unchanged.
+    /// The book is unchanged. Does not allocate.
     ///
-    /// Errors: `Stranger` exactly if that is false, including when the book has no frame at `at`.
+    /// Errors: `Stranger` if either doesn't hold, including when the list has no frame at `at`, and only then.
     ///
     /// Rules: The book and the threads 15; Refusals 2
     pub fn check(&mut self, node: Proc, at: FrameRef, bytes: &[u8]) -> Result<(), Fault>
@@ -249,7 +251,8 @@ impl<O: Object, K: BookName<O::Alloc>> Book<O, K> {
 
     /// Returns the answer to a node's ticket in the book's list, or `None` while the list doesn't answer it.
     ///
-    /// Also returns `None` for a ticket that the node didn't give, and for a processor outside the group.
+    /// Also returns `None` for a ticket that the node didn't give, and for a processor outside the group. Does not
+    /// allocate.
     ///
     /// Rules: The book and the threads 15
     pub fn answer(&self, node: Proc, ticket: Ticket) -> Option<Answer>
@@ -263,7 +266,8 @@ impl<O: Object, K: BookName<O::Alloc>> Book<O, K> {
 
     /// Returns the answers of a node's tickets in the book's list, in the order of tickets, from ticket 0 on.
     ///
-    /// A ticket that the list doesn't answer has `None`. The result is empty for a processor outside the group.
+    /// A ticket that the list doesn't answer has `None`. The result is empty for a processor outside the group. Does
+    /// not allocate.
     ///
     /// Rules: The book and the threads 15
     pub fn answers(&self, node: Proc) -> &[Option<Answer>]
@@ -308,7 +312,9 @@ impl<O: Object, K: BookName<O::Alloc>> Book<O, K> {
         )
     }
 
-    /// Returns line `number`, counted from 0, or `None` if the list has fewer lines.
+    /// Returns line `number`, counted from 0, or `None` if the list has no such line.
+    ///
+    /// Does not allocate.
     ///
     /// Rules: The book and the threads 10
     pub fn line(&self, number: u32) -> Option<&Line<O::Alloc>>
@@ -317,7 +323,9 @@ impl<O: Object, K: BookName<O::Alloc>> Book<O, K> {
         self.lines.get(number as usize)
     }
 
-    /// Appends the encoding of the frame at `at` to `out`, whatever its receivers: at most 8,192 bytes.
+    /// Appends the encoding of the frame at `at` to `out`, at most 8,192 bytes, whoever its receivers are.
+    ///
+    /// The book is unchanged.
     ///
     /// Errors: `Stranger` if there is no such frame. Otherwise `Memory` if an allocation fails. Nothing is then
     /// appended.

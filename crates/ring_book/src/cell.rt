@@ -76,6 +76,8 @@ impl<O: Object, K: BookName<O::Alloc>> Cell<O, K> {
 
     /// Returns the processor of the cell's node.
     ///
+    /// Does not allocate.
+    ///
     /// Rules: The book and the threads 13
     pub fn processor(&self) -> Proc
         ensures { result ≡ self.now.me }
@@ -84,6 +86,8 @@ impl<O: Object, K: BookName<O::Alloc>> Cell<O, K> {
     }
 
     /// Returns the cell's node, after its last step or submit, even if that hasn't been entered in the book yet.
+    ///
+    /// Does not allocate.
     ///
     /// Rules: The book and the threads 18
     pub fn node(&self) -> &Node<O>
@@ -94,8 +98,12 @@ impl<O: Object, K: BookName<O::Alloc>> Cell<O, K> {
 
     /// Runs one step of the node on an input, and adds the step to the journal.
     ///
-    /// `at` is the frame's place in the book; for any other input it has no meaning. A frame must be within the limits
-    /// of its format, as every decoded frame is. A stop does not allocate.
+    /// [`Book::enter`](crate::Book::enter) must enter the step in the book before the cell's next step or submit.
+    ///
+    /// `at` is the frame's place in the book; for any other input it has no meaning. It isn't checked here: while the
+    /// book doesn't have the frame at `at` for this node, `enter` refuses the step, and the cell then refuses all other
+    /// steps and submits. So call [`Book::check`](crate::Book::check) first. A frame must be within the limits of its
+    /// format, as every decoded frame is. A stop does not allocate.
     ///
     /// Errors, in this order: `Stranger` if the last step hasn't been entered yet, and `Stopped` if the node has
     /// stopped; nothing has then changed. `Memory` if an allocation fails; the node has then stopped, and its stop is
@@ -152,9 +160,12 @@ impl<O: Object, K: BookName<O::Alloc>> Cell<O, K> {
     /// bytes.
     ///
     /// `bytes` must be the encoding of `frame`, which must be within the limits of its format. `at` is its place in the
-    /// book.
+    /// book, which isn't checked here: call [`Book::check`](crate::Book::check) first, for the reason that
+    /// [`step`](Cell::step) states. The step must be entered in the book before the cell's next step or submit.
     ///
-    /// Errors: `Stranger`, `Stopped` and `Memory` as for [`step`](Cell::step), in this order.
+    /// Errors, in this order: `Stranger` if the last step hasn't been entered yet, and `Stopped` if the node has
+    /// stopped; nothing has then changed. `Memory` if an allocation fails; the node has then stopped, and its stop is
+    /// added to the journal.
     ///
     /// Rules: The book and the threads 13 and 14; Refusals 4 to 6
     pub fn receive(
@@ -205,7 +216,8 @@ impl<O: Object, K: BookName<O::Alloc>> Cell<O, K> {
 
     /// Submits a call at the node, adds the submit to the journal, and returns the ticket.
     ///
-    /// The call must be within the limits of a call, as every one from `Call::new` is.
+    /// The call must be within the limits of a call, as every one from `Call::new` is. The submit must be entered in
+    /// the book before the cell's next step or submit.
     ///
     /// Errors, in this order: `Stranger` if the last step hasn't been entered yet. `Stopped` if the node has stopped.
     /// `PendingFull` if 64 of its tickets are unanswered or 2^62 have been given. `Memory` if an allocation fails.

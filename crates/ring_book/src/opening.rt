@@ -74,9 +74,9 @@ impl<O: Object> Opening<O> {
         })
     }
 
-    /// Returns the book, without lines, and the cells of the processors in ascending order, 1 to 16 of them.
+    /// Returns the empty book and the cells, one for each processor of the group (1 to 16), in ascending order.
     ///
-    /// `K` must be the name of this opening, which is used up.
+    /// Consumes the opening. `K` must be its name.
     ///
     /// Errors: `Memory` if an allocation fails; the opening is dropped.
     ///

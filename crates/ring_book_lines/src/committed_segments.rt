@@ -22,8 +22,8 @@ pub struct LogSegment {
 /// Extends the longest committed log by line `number`, which records `step`.
 ///
 /// `total` is the log's number of places, and `segments` are its segments. If the step's node has now committed more
-/// than `total` places, the calls after them become a new last segment, and `total` becomes the node's committed
-/// length. Otherwise nothing changes. There must be room for one more segment. Does not allocate.
+/// than `total` places, the step's calls at the places after them become a new last segment, and `total` becomes the
+/// node's committed length. Otherwise nothing changes. There must be room for one more segment. Does not allocate.
 ///
 /// Rules: Sessions 10
 pub fn extend_longest_log<A: Allocator + Copy + Drop>(

@@ -78,7 +78,7 @@ pub(crate) fn are_equal_bytes(text: &[u8], bytes: &[u8]) -> bool
 }
 
 impl<A: Allocator + Copy + Drop> EncodedFrame<A> {
-    /// Encodes a frame that was sent to `receivers`.
+    /// Encodes and stores a frame that was sent to `receivers`.
     ///
     /// The frame must be within the limits of its format. `text` is a scratch buffer that must have a capacity of at
     /// least 8,192 bytes; its contents are unspecified afterwards.
@@ -109,7 +109,7 @@ impl<A: Allocator + Copy + Drop> EncodedFrame<A> {
 
     /// Returns the processors to which the frame was sent.
     ///
-    /// The sender may be one of them.
+    /// The sender may be one of them. Does not allocate.
     ///
     /// Rules: The book and the threads 9
     pub fn receivers(&self) -> ProcSet
@@ -120,6 +120,8 @@ impl<A: Allocator + Copy + Drop> EncodedFrame<A> {
 
     /// Returns the frame's encoding, which has at most 8,192 bytes.
     ///
+    /// Does not allocate.
+    ///
     /// Formats: Frames
     pub fn bytes(&self) -> &[u8]
         ensures { result.now ≡ encoding_of self.now.frame }
@@ -128,6 +130,8 @@ impl<A: Allocator + Copy + Drop> EncodedFrame<A> {
     }
 
     /// Returns whether `node` is one of the frame's receivers.
+    ///
+    /// Does not allocate.
     ///
     /// Rules: The book and the threads 9
     pub fn is_receiver(&self, node: Proc) -> bool
@@ -138,6 +142,8 @@ impl<A: Allocator + Copy + Drop> EncodedFrame<A> {
 
     /// Returns whether the frame's encoding is exactly `bytes`.
     ///
+    /// Does not allocate.
+    ///
     /// Formats: Frames
     pub fn has_bytes(&self, bytes: &[u8]) -> bool
         ensures { IsTrue result ↔ (encoding_of self.now.frame ≡ bytes.now) }
@@ -147,7 +153,7 @@ impl<A: Allocator + Copy + Drop> EncodedFrame<A> {
 
     /// Returns whether the stored frame equals `frame`.
     ///
-    /// It compares their encodings, which no two frames share.
+    /// Compares their encodings, which no two frames share.
     ///
     /// `frame` must be within the limits of its format. `text` is a scratch buffer that must have a capacity of at
     /// least 8,192 bytes; its contents are unspecified afterwards. Does not allocate.
@@ -180,6 +186,8 @@ impl<A: Allocator + Copy + Drop> EncodedFrame<A> {
     }
 
     /// Returns whether the frame was sent to `node` and its encoding is exactly `bytes`.
+    ///
+    /// Does not allocate.
     ///
     /// Rules: The book and the threads 15
     /// Formats: Frames

@@ -17,7 +17,8 @@ use std::alloc::Allocator;
 
 /// Returns the history of the lines: copies of their issued calls and their replies, in order.
 ///
-/// An answer without a reply adds nothing.
+/// A line adds its submitted call, or else the replies among its answers, each with a copy of its call. An answer
+/// without a reply adds nothing.
 ///
 /// Errors: `Memory` if an allocation fails.
 ///

@@ -101,9 +101,8 @@ fn input_cause<A: Allocator + Copy + Drop>(input: &Input<A>, at: FrameRef) -> Ca
 impl<A: Allocator + Copy + Drop> Line<A> {
     /// Returns line `number`, counted from 0, for a step.
     ///
-    /// Does not allocate.
-    ///
-    /// A frame that the step delivers is dropped, except for its `FrameRef`.
+    /// A frame that the step delivers is dropped, except for its `FrameRef`. That the step belongs at this place of a
+    /// list isn't checked: see [`is_deliverable`]. Does not allocate.
     ///
     /// Rules: The book and the threads 9 and 10
     pub fn new(number: u32, step: Step<A>) -> Line<A>
@@ -131,6 +130,8 @@ impl<A: Allocator + Copy + Drop> Line<A> {
 
     /// Returns the line's number in the book's list, counted from 0.
     ///
+    /// Does not allocate.
+    ///
     /// Rules: The book and the threads 10
     pub fn number(&self) -> u32
         ensures { result ≡ self.now.number }
@@ -139,6 +140,8 @@ impl<A: Allocator + Copy + Drop> Line<A> {
     }
 
     /// Returns the processor whose node ran the line's step or took the submitted call.
+    ///
+    /// Does not allocate.
     ///
     /// Rules: The book and the threads 9
     pub fn node(&self) -> Proc
@@ -149,6 +152,8 @@ impl<A: Allocator + Copy + Drop> Line<A> {
 
     /// Returns the line's event: the call, a reference to the frame, noise, the kind of the timeout, or the stop.
     ///
+    /// Does not allocate.
+    ///
     /// Rules: The book and the threads 9
     pub fn cause(&self) -> &Cause<A>
         ensures { result.now ≡ cause_of self.now.step.input }
@@ -158,9 +163,8 @@ impl<A: Allocator + Copy + Drop> Line<A> {
 
     /// Returns the frames that the line's step sent, each with its receivers, in the order of sending.
     ///
-    /// A submit has none.
-    ///
-    /// The index of a frame in this list, counted from 0, is the `place` in its `FrameRef`.
+    /// A submit has none, and neither has a stop. The index of a frame in this list, counted from 0, is the `place` in
+    /// its `FrameRef`. Does not allocate.
     ///
     /// Rules: The book and the threads 9 and 10
     pub fn frames(&self) -> &LineFrames<A>
@@ -171,7 +175,7 @@ impl<A: Allocator + Copy + Drop> Line<A> {
 
     /// Returns the answers that the node gave in the line's step, each with its ticket, in the order given.
     ///
-    /// A submit has none.
+    /// A submit has none, and neither has a stop. Does not allocate.
     ///
     /// Rules: The book and the threads 9; The replicated log 14
     pub fn answers(&self) -> &[TicketAnswer<A>]
@@ -182,7 +186,8 @@ impl<A: Allocator + Copy + Drop> Line<A> {
 
     /// Returns the calls at the places that the node newly committed in the line's step, in order, including repeats.
     ///
-    /// A submit has none. Places that a restored snapshot replaces aren't among them.
+    /// A submit has none, and neither has a stop. Places that a restored snapshot replaces aren't among them. Does not
+    /// allocate.
     ///
     /// Rules: The book and the threads 9; The replicated log 12
     pub fn committed(&self) -> &[Call<A>]
@@ -195,7 +200,7 @@ impl<A: Allocator + Copy + Drop> Line<A> {
 /// Returns whether the lines have a frame at `at` that was sent to `node` and whose encoding is exactly `bytes`.
 ///
 /// Returns false if there is no frame at `at`. `text` is a scratch buffer that must have a capacity of at least 8,192
-/// bytes; its contents are unspecified afterwards.
+/// bytes; its contents are unspecified afterwards. Does not allocate.
 ///
 /// Rules: The book and the threads 15
 pub fn has_bytes_at<A: Allocator + Copy + Drop>(
@@ -218,7 +223,8 @@ pub fn has_bytes_at<A: Allocator + Copy + Drop>(
 /// Returns whether the step may be entered after these lines.
 ///
 /// It may if it delivers no frame, or if the lines have that frame at its `FrameRef`, sent to the step's node. `text`
-/// is a scratch buffer that must have a capacity of at least 8,192 bytes; its contents are unspecified afterwards.
+/// is a scratch buffer that must have a capacity of at least 8,192 bytes; its contents are unspecified afterwards. Does
+/// not allocate.
 ///
 /// Rules: The book and the threads 11 and 16
 pub fn is_deliverable<A: Allocator + Copy + Drop>(

@@ -254,7 +254,7 @@ fn put_unencoded<A: Allocator + Copy + Drop>(
 }
 
 impl<A: Allocator + Copy + Drop> LineFrames<A> {
-    /// Returns an empty list of frames, as a submit and a stop have it.
+    /// Returns an empty list of frames, which is that of a submit or a stop.
     ///
     /// Does not allocate.
     ///
@@ -267,10 +267,10 @@ impl<A: Allocator + Copy + Drop> LineFrames<A> {
         }
     }
 
-    /// Stores the frames in order: as bytes, or as the values that they are if there is no memory for the bytes.
+    /// Stores the frames in order: as bytes, or as they are if an allocation for the bytes fails.
     ///
-    /// Each must be within the limits of its format. `text` is a scratch buffer that must have a capacity of at least
-    /// 8,192 bytes; its contents are unspecified afterwards.
+    /// So it can't fail. Each frame must be within the limits of its format. `text` is a scratch buffer that must have
+    /// a capacity of at least 8,192 bytes; its contents are unspecified afterwards.
     ///
     /// Rules: The book and the threads 9
     /// Formats: Frames
@@ -293,7 +293,8 @@ impl<A: Allocator + Copy + Drop> LineFrames<A> {
     /// Returns whether the frame at index `frame_index`, counted from 0, equals `frame` and was sent to `node`.
     ///
     /// Returns false if there is no such frame. `frame` must be within the limits of its format. `text` is a scratch
-    /// buffer that must have a capacity of at least 8,192 bytes; its contents are unspecified afterwards.
+    /// buffer that must have a capacity of at least 8,192 bytes; its contents are unspecified afterwards. Does not
+    /// allocate.
     ///
     /// Rules: The book and the threads 11
     pub fn has_frame_for(
@@ -329,7 +330,7 @@ impl<A: Allocator + Copy + Drop> LineFrames<A> {
     /// `node`.
     ///
     /// Returns false if there is no such frame. `text` is a scratch buffer that must have a capacity of at least 8,192
-    /// bytes; its contents are unspecified afterwards.
+    /// bytes; its contents are unspecified afterwards. Does not allocate.
     ///
     /// Rules: The book and the threads 11
     pub fn has_received_frame(
@@ -352,7 +353,7 @@ impl<A: Allocator + Copy + Drop> LineFrames<A> {
     /// `bytes`.
     ///
     /// Returns false if there is no such frame. `text` is a scratch buffer that must have a capacity of at least 8,192
-    /// bytes; its contents are unspecified afterwards.
+    /// bytes; its contents are unspecified afterwards. Does not allocate.
     ///
     /// Rules: The book and the threads 15
     pub fn has_bytes(
@@ -384,6 +385,8 @@ impl<A: Allocator + Copy + Drop> LineFrames<A> {
     }
 
     /// Returns the receivers of the frame at index `frame_index`, counted from 0, or `None` if there is no such frame.
+    ///
+    /// Does not allocate.
     ///
     /// Rules: The book and the threads 9
     pub fn receivers(&self, frame_index: u16) -> Option<ProcSet>
@@ -419,6 +422,8 @@ impl<A: Allocator + Copy + Drop> LineFrames<A> {
     }
 
     /// Returns the number of frames that the line's step sent.
+    ///
+    /// A frame to several receivers counts once. Does not allocate.
     ///
     /// Rules: The book and the threads 9
     pub fn len(&self) -> usize

@@ -18,8 +18,8 @@ use std::alloc::Allocator;
 
 /// Returns copies of the calls of these segments that take effect, in order, with repeats removed.
 ///
-/// For the segments of the lines' longest committed log this is the order of their run. A segment of a line that
-/// doesn't exist adds nothing.
+/// For the segments of the lines' longest committed log this is the order of their run. A segment adds nothing if its
+/// line doesn't exist, or if `from` isn't less than the number of the line's committed calls.
 ///
 /// Errors: `Memory` if an allocation fails.
 ///

@@ -38,9 +38,7 @@ impl<A: Allocator + Copy + Drop> Model for ReceivedFrame<A> {
 impl<A: Allocator + Copy + Drop> ReceivedFrame<A> {
     /// Stores `frame` as `bytes`, which must be its encoding.
     ///
-    /// Does not allocate: the bytes are moved.
-    ///
-    /// The frame must be within the limits of its format.
+    /// The frame must be within the limits of its format. Does not allocate: the bytes are moved.
     ///
     /// Formats: Frames
     pub fn new(frame: &Frame<A>, bytes: Vec<u8, A>) -> ReceivedFrame<A>
@@ -55,6 +53,8 @@ impl<A: Allocator + Copy + Drop> ReceivedFrame<A> {
     }
 
     /// Returns the frame's encoding, which has at most 8,192 bytes.
+    ///
+    /// Does not allocate.
     ///
     /// Formats: Frames
     pub fn bytes(&self) -> &[u8]

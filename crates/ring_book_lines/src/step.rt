@@ -67,7 +67,8 @@ impl<A: Allocator + Copy + Drop> Step<A> {
     /// Returns a node's step on an input, with the frames sent, the answers given and the newly committed calls.
     ///
     /// `committed` is the node's committed length after the step, including dropped places. A frame in the input must
-    /// be within the limits of its format, and a call within those of a call.
+    /// be within the limits of its format, and a call within those of a call. That the outputs are those of a node on
+    /// this input isn't checked. Does not allocate.
     ///
     /// Rules: The book and the threads 9
     pub fn new(

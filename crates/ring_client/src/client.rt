@@ -77,6 +77,8 @@ impl<P: Port> Client<P> {
     /// Errors that leave the call open: `NoAnswer` if no port answered. `Memory` if the allocation for a later port's
     /// copy of the call fails.
     ///
+    /// Waits only if a port does.
+    ///
     /// Rules: Clients 3 to 5 and 7
     pub fn call(&mut self, op: &[u8]) -> Result<Reply, Fault>
         ensures ready { IfOk result (λ _. IsReady self.old × OpFits op.now) }
@@ -94,7 +96,7 @@ impl<P: Port> Client<P> {
 
     /// Tries the open call again, from the first port on, under the same number.
     ///
-    /// Its reply closes the call and raises the number by one.
+    /// Its reply closes the call and raises the number by one. Waits only if a port does.
     ///
     /// Errors: `NoAnswer` if no call is open, as `is_open` shows; nothing has then changed. `NoAnswer` if no port
     /// answered, and `Memory` if the allocation for a port's copy of the call fails; the call stays open. `Conflict`,
@@ -115,10 +117,10 @@ impl<P: Port> Client<P> {
     /// Makes a call as [`call`](Client::call) does, and tries it again up to `limit` times while no port answers.
     ///
     /// If `limit` is 0, it is the same as `call`. Each try starts at the first port and uses the same number, so the
-    /// call takes effect at most once.
+    /// call takes effect at most once. Waits only if a port does.
     ///
-    /// Errors: those of `call`. If no port answers, `NoAnswer` is returned only after all these tries, and the call is
-    /// open. After `Memory` in a later try the call is open too.
+    /// Errors: those of `call`. If no port answers, `NoAnswer` is returned only after the first try and `limit` more,
+    /// and the call is open. Any other error ends the tries; after `Memory` in a later try the call is open too.
     ///
     /// Rules: Clients 6
     pub fn until_answered(&mut self, op: &[u8], limit: u64) -> Result<Reply, Fault>

@@ -31,9 +31,8 @@ pub trait Port: Drop {
 
     /// Submits a call and returns the ticket to poll.
     ///
-    /// The port copies the call if it takes it.
-    ///
-    /// `asked` then has the call, and the refusal if there is one.
+    /// The port copies the call if it takes it. `asked` then has the call, and the refusal if there is one. Whether the
+    /// submit waits is up to the port.
     ///
     /// Errors: any fault with which the port refuses the call. A client then tries its next port.
     ///
@@ -44,7 +43,8 @@ pub trait Port: Drop {
 
     /// Returns the answer to the ticket's call, or `None` if it hasn't arrived.
     ///
-    /// An `Answer::Refused` has a number from 4 to 7. `asked` counts the poll and has its result.
+    /// An `Answer::Refused` has a number from 4 to 7. `asked` counts the poll and has its result. Whether the poll
+    /// waits is up to the port.
     ///
     /// Rules: Clients 2
     fn poll(&mut self, ticket: &Self::Ticket) -> Option<Answer>
@@ -53,6 +53,8 @@ pub trait Port: Drop {
 
     /// Returns the last request: the last submit's call, its refusal, the number of polls since, and the last poll's
     /// answer.
+    ///
+    /// Before any submit its number is 0.
     ///
     /// Rules: Clients 2
     fn asked(&self) -> &Asked

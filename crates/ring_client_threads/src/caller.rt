@@ -26,6 +26,7 @@ pub trait Caller {
     ///
     /// The client tries the next node if this one refuses a call or doesn't answer it within 1,000,000 polls. The order
     /// is that of the nodes' numbers, with node 1 after the last. It makes the same call, under the same number.
+    /// [`run_callers`](crate::run_callers) refuses a number of no node. The result must always be the same.
     ///
     /// Rules: Clients 4; The book and the threads 28
     fn first_node(&self) -> u8
@@ -33,10 +34,9 @@ pub trait Caller {
 
     /// Makes the client's calls, and may wait for their answers.
     ///
-    /// The run calls this once.
-    ///
-    /// A call returns `NoAnswer` if each node was tried without success, as happens while the nodes form a ring; so use
-    /// `until_answered`. If it never returns, the run doesn't end either.
+    /// The run calls this once at most, on the client's thread. A call returns `NoAnswer` if each node was tried
+    /// without success, as happens while the nodes form a ring; so use [`Client::until_answered`]. If this function
+    /// never returns, the run doesn't end either.
     ///
     /// Rules: Clients 3 to 6
     fn make_calls<P: Port>(&self, client: &mut Client<P>);

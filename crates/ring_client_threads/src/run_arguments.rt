@@ -11,9 +11,7 @@ use ring_base::{Fault, Fixed};
 
 /// The maximum number of ports of all callers of a run together.
 ///
-/// Each caller has one to each node.
-///
-/// `run_callers` refuses more with `NotMember`.
+/// Each caller has one to each node. [`run_callers`](crate::run_callers) refuses more with `NotMember`.
 ///
 /// Rules: Limits 1 and 2
 pub const MAX_PORTS_OF_RUN: usize = 256;

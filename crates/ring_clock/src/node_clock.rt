@@ -42,10 +42,12 @@ impl NodeClock {
         }
     }
 
-    /// Takes the first timeout that is due at time `now`, in milliseconds, or returns `None` if none is due.
+    /// Restarts the first timeout that is due at time `now`, in milliseconds, and returns it, or returns `None` if none
+    /// is due.
     ///
-    /// The first time that is passed opens the timers. An earlier time than the latest one is treated as the latest
-    /// one.
+    /// The order is join, retransmit, consensus, loss. The others stay due: call it again with the same time until it
+    /// returns `None`. The first time that is passed opens the timers, and no timeout is due then. An earlier time than
+    /// the latest one is treated as the latest one.
     ///
     /// Rules: A node with a clock 2, 4 to 6 and 9
     pub fn next_due(&mut self, now: u64) -> Option<Kind>
@@ -63,7 +65,8 @@ impl NodeClock {
 
     /// Notes a step of the node, at the latest time passed.
     ///
-    /// Does nothing before the first time.
+    /// If the node took a token or a commit token, retransmit, consensus and loss begin to count again. If it sent a
+    /// join on any input but a join timeout, consensus and loss do. Does nothing before the first time is passed.
     ///
     /// Rules: A node with a clock 5 and 9
     pub fn note_step(&mut self, outcome: StepOutcome)
@@ -76,7 +79,7 @@ impl NodeClock {
 
     /// Returns the earliest time at which a timeout is due, in milliseconds, or `None` before the first time is passed.
     ///
-    /// It saturates at `u64::MAX`.
+    /// No timeout is due before it. It saturates at `u64::MAX`, and no timeout need be due then.
     ///
     /// Rules: A node with a clock 7 and 9
     pub fn next_time(&self) -> Option<u64>

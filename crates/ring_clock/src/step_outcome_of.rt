@@ -48,9 +48,10 @@ pub fn has_sent_frame<A: Allocator + Copy>(sends: &[OutgoingFrame<A>]) -> bool
     !sends.is_empty()
 }
 
-/// Returns what the timers need to know of a step with these `sends`.
+/// Returns what the timers need to know of a step that sent these frames.
 ///
-/// `timeout` and `is_token` are those of its input: see [`timeout_in`] and [`is_token_or_commit_token()`].
+/// That is its timeout, whether it took a token or a commit token, and whether it sent a join. `timeout` and `is_token`
+/// must be those of its input, as [`timeout_in`] and [`is_token_or_commit_token()`] return them; this isn't checked.
 ///
 /// Rules: A node with a clock 5
 pub fn step_outcome<A: Allocator + Copy>(

@@ -131,7 +131,8 @@ impl<O: Object> Driver<O> {
 
     /// Submits a client's call and returns its ticket.
     ///
-    /// `number` counts the client's calls from 1. `operation` has at most 1,024 bytes.
+    /// `number` counts the client's calls from 1. `operation` has at most 1,024 bytes. The outputs of the last step can
+    /// still be taken.
     ///
     /// Errors, in this order: `OpTooLong` if the operation has more than 1,024 bytes. `NumberGap` if `number` is 0.
     /// `Memory` if an allocation for the call fails. `Stopped` if the node has stopped. `PendingFull` if 64 tickets are
@@ -269,10 +270,10 @@ impl<O: Object> Driver<O> {
         Ok(())
     }
 
-    /// Takes the next frame that the last step sent, with its receivers, in the order of sending, or `None` once all
-    /// are taken.
+    /// Removes and returns the next frame that the last step sent, with its receivers, in the order of sending, or
+    /// returns `None` once all have been taken.
     ///
-    /// The node itself may be a receiver.
+    /// The node itself may be a receiver. Frames that aren't taken before the next step are lost.
     ///
     /// Rules: Outputs 2
     pub fn next_send(&mut self) -> Option<(ProcSet, ValidFrame<O::Alloc>)>
@@ -282,11 +283,13 @@ impl<O: Object> Driver<O> {
         Some((sent.to, ValidFrame::from_valid(sent.frame)))
     }
 
-    /// Takes the next call that the last step newly committed, in the order of the log, or `None` once all are taken.
+    /// Removes and returns the next call that the last step newly committed, in the order of the log, or returns `None`
+    /// once all have been taken.
     ///
-    /// Repeats are included.
+    /// Repeats are included. The calls of a restored snapshot aren't. Calls that aren't taken before the next step are
+    /// lost.
     ///
-    /// Rules: The replicated log 12 and 18
+    /// Rules: The replicated log 6, 12 and 18
     pub fn next_committed(&mut self) -> Option<Call<O::Alloc>>
         ensures first { IsFirstTaken self.old.committed self.new.committed result }
         ensures others { self.new ≡ record self.old { committed = self.new.committed } }
@@ -294,9 +297,11 @@ impl<O: Object> Driver<O> {
         self.committed.pop_front()
     }
 
-    /// Takes the next call of the committed places that the last step dropped, in order, or `None` once all are taken.
+    /// Removes and returns the next call of the committed places that the last step dropped, in order, or returns
+    /// `None` once all have been taken.
     ///
-    /// Places that a restored snapshot replaces aren't among them.
+    /// Places that a restored snapshot replaces aren't among them. Calls that aren't taken before the next step are
+    /// lost.
     ///
     /// Rules: The replicated log 18 and 20
     pub fn next_dropped(&mut self) -> Option<Call<O::Alloc>>
@@ -308,7 +313,8 @@ impl<O: Object> Driver<O> {
 
     /// Returns the number of places of the snapshot that the last step restored, or `None` if it restored none.
     ///
-    /// They are the first places of the log. The calls that the step newly committed come after them.
+    /// They are the first places of the log. The calls that the step newly committed come after them. A refused step
+    /// doesn't count. Also returns `None` before the first step.
     ///
     /// Rules: The replicated log 6 and 18
     pub fn restored(&self) -> Option<u64>
@@ -319,7 +325,8 @@ impl<O: Object> Driver<O> {
 
     /// Returns whether the last step installed a ring.
     ///
-    /// [`node`](Driver::node) has its name and its members.
+    /// [`node`](Driver::node) has its name and its members. A refused step doesn't count. Returns false before the
+    /// first step.
     ///
     /// Rules: Outputs 1
     pub fn has_installed(&self) -> bool

@@ -18,11 +18,9 @@ use std::marker::{Model, PhantomData};
 
 /// The answers that one look at a host's book found, at most 64.
 ///
-/// They are the answers to a node's tickets from one ticket on, up to the first ticket without an answer.
-///
-/// Contracts see the node, the first ticket and the answers.
-///
-/// Each is an answer of the host's book: some run of the group issues the ticket and has this answer to it.
+/// They are the answers to a node's tickets from one ticket on, up to the first ticket without an answer. Each is an
+/// answer of the host's book: some run of the group issues the ticket and has this answer to it. Contracts see the
+/// node, the first ticket and the answers.
 ///
 /// Rules: The book and the threads 26
 #[derive(Drop)]
@@ -61,8 +59,8 @@ impl<O: Object, K: BookName<O::Alloc>> AnswerCache<O, K> {
 
     /// Returns the answer to the ticket that the last look found.
     ///
-    /// Returns `None` if it found none, including for a ticket of another node or outside those looked up. Takes no
-    /// lock.
+    /// Returns `None` if it found none, including before the first look, and for a ticket of another node or outside
+    /// those looked up. Takes no lock and does not allocate.
     ///
     /// Rules: The book and the threads 26
     pub fn answer(&self, ticket: &HostTicket) -> Option<Answer>

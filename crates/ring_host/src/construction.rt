@@ -20,10 +20,10 @@ use std::sync::Mutex;
 use std::sync::atomic::AtomicBool;
 
 impl<O: Object, K: BookName<O::Alloc>> HostOf<Cell<O, K>, Book<O, K>, O::Alloc> {
-    /// Creates the host of the opening that `K` names, and its seats.
+    /// Creates the host of the opening, and its seats.
     ///
-    /// The seats are the own seat of each node, in ascending order, then `more` seats of no node. `more` must be at
-    /// most 256. Each inbox has room for 1,024 items.
+    /// `K` must be the name of `opening`. The seats are the own seat of each node, in ascending order, then `more`
+    /// seats of no node. `more` must be at most 256. Each inbox has room for 1,024 items.
     ///
     /// Errors: `Memory` if an allocation fails; the opening is then dropped.
     ///
@@ -44,7 +44,9 @@ impl<O: Object, K: BookName<O::Alloc>> HostOf<Cell<O, K>, Book<O, K>, O::Alloc> 
         HostOf::with_inbox(alloc, opening, more, INBOX)
     }
 
-    /// Creates a host as [`HostOf::new`] does, with inboxes of `size` items, 1 to 1,024.
+    /// Creates a host as [`HostOf::new`] does, with inboxes of `size` items.
+    ///
+    /// `size` must be 1 to 1,024. `K` must be the name of `opening`, and `more` at most 256.
     ///
     /// Errors: `Memory` if an allocation fails; the opening is then dropped.
     ///

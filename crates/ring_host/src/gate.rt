@@ -52,7 +52,8 @@ pub trait Gate {
 
     /// Called when a turn of the node reaches `place`, on the thread that takes the turn.
     ///
-    /// The turn goes on when the call returns.
+    /// The turn goes on when the call returns. A turn that finds nothing reaches neither place, and one that fails may
+    /// reach only `Held`.
     ///
     /// Rules: The book and the threads 21 and 29
     fn at(&self, node: Proc, place: GatePlace)

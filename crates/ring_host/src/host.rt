@@ -93,9 +93,9 @@ impl<C, B, A: Allocator + Copy + Drop> Model for HostOf<C, B, A> {
 pub type Host<O: Object, K> = HostOf<Cell<O, K>, Book<O, K>, O::Alloc>;
 
 impl<C, B, A: Allocator + Copy + Drop> HostOf<C, B, A> {
-    /// Runs the closure with the book locked and returns its result.
+    /// Locks the book, calls the closure with it once, and returns the closure's result.
     ///
-    /// It waits for the lock. Calling the host inside deadlocks.
+    /// Waits for the book's lock. The closure must not call a function of this host that takes a lock: it may deadlock.
     ///
     /// Rules: The book and the threads 26
     pub fn read_book<W: Wait, R, F: FnOnce(&B) -> R>(&self, rt: &W, f: F) -> R
@@ -107,6 +107,8 @@ impl<C, B, A: Allocator + Copy + Drop> HostOf<C, B, A> {
     }
 
     /// Returns the host's processor `number`.
+    ///
+    /// Does not allocate.
     ///
     /// Errors: `NotMember` unless `number` is 1 to the number of nodes.
     ///
@@ -124,10 +126,8 @@ impl<C, B, A: Allocator + Copy + Drop> HostOf<C, B, A> {
 
     /// Removes and returns the last of these seats, or returns `None` if the list is empty.
     ///
-    /// The seats must be this host's.
-    ///
-    /// Of the list that the host was created with, the seats of no node come first. The nodes' own seats follow, from
-    /// the last node to node 1.
+    /// The seats must be this host's. Of the list that the host was created with, the seats of no node come first. The
+    /// nodes' own seats follow, from the last node to node 1. Does not allocate.
     ///
     /// Rules: The book and the threads 19
     pub fn take_seat(&self, seats: &mut Vec<Seat<A>, A>) -> Option<Seat<A>>
@@ -142,6 +142,8 @@ impl<C, B, A: Allocator + Copy + Drop> HostOf<C, B, A> {
 
     /// Returns the host's gauge: for each node a word with the greatest committed length that was published for it, 0
     /// at first.
+    ///
+    /// Takes no lock and does not allocate.
     ///
     /// Rules: The book and the threads 33 and 34
     pub fn gauge(&self) -> &Gauge<A>
@@ -195,14 +197,17 @@ impl<O: Object, K: BookName<O::Alloc>> HostOf<Cell<O, K>, Book<O, K>, O::Alloc> 
     /// Runs one turn of the seat's node: a timeout that is due, or else the first item of its inbox.
     ///
     /// Returns the number of dropped copies and the node's committed length, dropped places included, which it
-    /// publishes on the seat. A turn that finds nothing yields and publishes nothing.
+    /// publishes on the seat. A turn that finds nothing yields, publishes nothing, and returns 0 and `None`.
     ///
-    /// The seat must be a node's own seat of this host. [`Seat::tick`] counts the turn on its clock. [`Seat::take`]
-    /// restarts the timeouts if the item is a token or a commit token that the step doesn't ignore.
+    /// The seat must be a node's own seat of this host. [`Seat::tick`] counts the turn on its clock, even if the turn
+    /// fails. [`Seat::take`] restarts the timeouts if the item is a token or a commit token that the step doesn't
+    /// ignore. Waits for the locks of the node and of the book.
     ///
-    /// Errors: `Memory` or `Stranger` if the item can't be read or isn't in the book; then `BookFull`, or `Memory` for
-    /// the place; then those of the node's step: `Stranger`, `Stopped`, or `Memory`, which leaves the node stopped. A
-    /// turn that fails publishes nothing, and the timeout or item that it took is spent.
+    /// Errors, in this order: `Memory` if an allocation fails while the item is read, or `Stranger` if its bytes aren't
+    /// a frame; `Stranger` if the book doesn't have it for this node; `BookFull`, or `Memory` for the place; then those
+    /// of the node's step: `Stranger`, `Stopped`, or `Memory`, which leaves the node stopped, with its stop in the
+    /// book. A turn that fails before the step leaves the node unchanged. Any turn that fails sends and publishes
+    /// nothing, and the timeout or item that it took is spent.
     ///
     /// Rules: The book and the threads 21 and 22, 30 to 32
     pub fn turn<W: Wait>(&self, rt: &W, seat: &mut Seat<O::Alloc>) -> Result<Turn, Fault>
@@ -223,7 +228,7 @@ impl<O: Object, K: BookName<O::Alloc>> HostOf<Cell<O, K>, Book<O, K>, O::Alloc> 
     /// Submits a call at the node, enters its line, and returns the node with its ticket.
     ///
     /// Seat and node must be this host's. `call` must be within the limits of its format, as each call from `Call::new`
-    /// is. A successful submit ends all rests.
+    /// is. A successful submit ends all rests. Waits for the locks of the node and of the book.
     ///
     /// Errors, in this order: `BookFull` if the book has no free place; `Memory` if an allocation for the place fails;
     /// `Stranger` while the node's last step isn't in the book; `Stopped` if the node has stopped; `PendingFull` if it
@@ -255,14 +260,14 @@ impl<O: Object, K: BookName<O::Alloc>> HostOf<Cell<O, K>, Book<O, K>, O::Alloc> 
 
     /// Stops a node of this host for good, and enters the stop in the book.
     ///
-    /// Like a submit it ends all rests: resting nodes take so few turns that they would give up the stopped node only
-    /// after hours.
+    /// A successful stop ends all rests: resting nodes take so few turns that they would give up the stopped node only
+    /// after hours. Waits for the locks of the node and of the book.
     ///
     /// Errors, in this order: `BookFull` if the book has no free place; `Memory` if an allocation fails; `Stranger`
     /// while the node's last step isn't in the book; `Stopped` if the node had already stopped. Node and book are then
     /// unchanged.
     ///
-    /// Rules: The book and the threads 25
+    /// Rules: The book and the threads 25 and 29
     pub fn stop<W: Wait>(&self, rt: &W, node: Proc) -> Result<(), Fault>
         requires { node ≤ self.now.words }
         ensures refused { IfErr result IsTurnFault }
@@ -279,8 +284,8 @@ impl<O: Object, K: BookName<O::Alloc>> HostOf<Cell<O, K>, Book<O, K>, O::Alloc> 
     /// Returns the answer to the ticket's call if this host's book has it.
     ///
     /// If there is an answer, some run of the group issues the ticket and has this answer to it. The result may be
-    /// `None` forever, for example if the node stops or the book is full, so a caller should limit its polls. Waits for
-    /// the book's lock.
+    /// `None` forever, for example if the node stops, the book is full or the node didn't give the ticket, so a caller
+    /// should limit its polls. That the ticket is one of this host isn't checked. Waits for the book's lock.
     ///
     /// Rules: The book and the threads 26
     pub fn poll<W: Wait>(&self, rt: &W, ticket: &HostTicket) -> Option<Answer>
@@ -303,10 +308,11 @@ impl<O: Object, K: BookName<O::Alloc>> HostOf<Cell<O, K>, Book<O, K>, O::Alloc> 
         AnswerCache::empty_cache(self.alloc, node)
     }
 
-    /// Looks up many answers under one lock.
+    /// Looks up the answers to `ticket` and to the later tickets of the same node, all under the book's lock.
     ///
-    /// The book's answers to `ticket` and to the later tickets of the same node replace the contents of the cache. They
-    /// end before the first ticket without an answer, and at 64. They also end early if an allocation fails.
+    /// They replace the contents of `answers`. They end before the first ticket without an answer, after 64, or where
+    /// an allocation fails. So there may be none, perhaps forever: see [`poll`](HostOf::poll). Waits for the book's
+    /// lock.
     ///
     /// Rules: The book and the threads 26
     pub fn poll_from<W: Wait>(&self, rt: &W, ticket: &HostTicket, answers: &mut AnswerCache<O, K>)

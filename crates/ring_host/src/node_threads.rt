@@ -58,8 +58,9 @@ where
     /// have ended.
     ///
     /// The seats must be this host's. A seat of no node takes no turn. The threads report their turns to the gate. A
-    /// thread ends without a report once the host is closed, its node has stopped or the book is full. After `Stranger`
-    /// and `Memory` it goes on with its next turn.
+    /// thread ends without a report once the host is closed, its node has stopped or the book is full; each of these
+    /// ends all rests. After `Stranger` and `Memory` it goes on with its next turn. If the host is already closed, no
+    /// turn is taken.
     ///
     /// A book has 262,144 places. A ring that idles at full speed uses them up within seconds; under
     /// [`PacedGate`](crate::PacedGate) it rests. [`read_book`](HostOf::read_book) borrows the book, whose `places`

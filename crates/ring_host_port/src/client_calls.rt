@@ -29,9 +29,7 @@ pub struct ClientCalls<A: Allocator + Copy + Drop = Global> {
 
 /// Returns the order and the history of the host's book.
 ///
-/// Both are read under one lock, so they belong to one run.
-///
-/// It waits for the lock.
+/// Both are read while the book is locked once, so they belong to one run. Waits for the book's lock.
 ///
 /// Errors: `Memory` if an allocation fails.
 ///

@@ -72,7 +72,8 @@ struct PendingLook {
 impl<'a, O: Object, K: BookName<O::Alloc>, W: Wait> HostPort<'a, O, K, W> {
     /// Creates the port to `node` of the host, before any submit.
     ///
-    /// `seat` must be one of the host's: a node's own or one of no node. `node` must be a node of the host.
+    /// `seat` must be one of the host's: a node's own or one of no node. `node` must be a node of the host. Does not
+    /// allocate.
     ///
     /// Rules: Clients 2
     pub fn new(
@@ -104,6 +105,8 @@ impl<'a, O: Object, K: BookName<O::Alloc>, W: Wait> HostPort<'a, O, K, W> {
     /// Creates the port to node `number` of the host, counted from 1, with the last of `seats`, which it removes.
     ///
     /// The seats must be the host's.
+    ///
+    /// Does not allocate.
     ///
     /// Errors: `NotMember` if the host has no such node, or no seat is left. The seats are then unchanged.
     ///
@@ -213,8 +216,11 @@ impl<'a, O: Object, K: BookName<O::Alloc>, W: Wait> Port for HostPort<'a, O, K, 
 
     /// Submits a copy of the call at the port's node and records it in `asked`.
     ///
+    /// Waits for the locks of the node and of the book.
+    ///
     /// Errors, in this order: `OpTooLong` if the operation has more than 1,024 bytes. `NumberGap` if the call's number
-    /// is 0. `Memory` if an allocation for the copy fails. Then those of [`Host::submit`](ring_host::HostOf::submit).
+    /// is 0. `Memory` if an allocation for the copy fails. Then those of [`Host::submit`](ring_host::HostOf::submit):
+    /// `BookFull`, `Memory`, `Stranger`, `Stopped`, `PendingFull`, `Memory`. Node and book are then unchanged, and
     /// `asked` has the refusal.
     ///
     /// Rules: Clients 2; The book and the threads 24
@@ -237,7 +243,8 @@ impl<'a, O: Object, K: BookName<O::Alloc>, W: Wait> Port for HostPort<'a, O, K, 
     /// Returns the answer to the ticket if the host's book has it and a client may see it.
     ///
     /// Some run of the group then has the ticket's issue and this answer to it. Otherwise returns `None`, after it has
-    /// yielded and perhaps slept.
+    /// yielded and perhaps slept. The result may be `None` forever, so a caller should limit its polls. Waits for the
+    /// book's lock if it looks at the book.
     ///
     /// Rules: Clients 2; The book and the threads 26
     fn poll(&mut self, ticket: &HostTicket) -> Option<Answer>
@@ -255,6 +262,8 @@ impl<'a, O: Object, K: BookName<O::Alloc>, W: Wait> Port for HostPort<'a, O, K, 
     }
 
     /// Returns the record of the last submit at the port, with the polls since.
+    ///
+    /// Does not allocate.
     ///
     /// Rules: Clients 2
     fn asked(&self) -> &Asked {

@@ -15,7 +15,7 @@ use std::sync::Wait;
 /// Returns whether the order of the host's book is a linearization of its history.
 ///
 /// It always is, and a checker decides it here from only the order and the history. Both are read at one moment, under
-/// the book's lock.
+/// the book's lock, for which it waits.
 ///
 /// Errors: `Memory` if an allocation fails.
 ///

@@ -22,7 +22,8 @@ use std::thread::Threads;
 ///
 /// Client c tries node c first, and then the others in order. It adds 1 to one counter `calls` times, one after the
 /// other, and ends at its first fault. Then client 1 reads the counter. Once all threads have ended, four lines are
-/// printed: the number of nodes, the number of answered adds, the counter, and whether the history is legal.
+/// printed: the number of nodes, the number of answered adds, the counter, and whether the history is legal. It waits
+/// for these threads.
 ///
 /// Returns the exit status: 0 if these lines are printed, the last as `legal yes`, or 1
 ///

@@ -200,8 +200,8 @@ fn live_result_of<A: Allocator + Copy + Drop>(
 
 /// Runs a group's nodes on threads, with as many clients, each of which adds 1 to a counter `calls` times.
 ///
-/// `O` must be a shelf whose second object is `Counters`. Returns the result, whatever was answered. Nodes that have
-/// nothing to do rest.
+/// `O` must be a shelf whose second object is `Counters`; this isn't checked. Returns the result once all threads have
+/// ended, whatever was answered. Nodes that have nothing to do rest.
 ///
 /// Errors: `Memory` if an allocation for the host, the clients or the check fails. A thread that can't be started is
 /// reported in `counter`.

@@ -15,7 +15,7 @@ use ring_base::{Fault, Proc};
 use std::alloc::{Allocator, Global};
 use std::marker::Model;
 
-/// `Gauge`: a watermark for each node, which is the greatest length published for it.
+/// A watermark for each node: the greatest length published for it.
 ///
 /// Each node has an atomic word that only `fetch_max` changes, so it never falls, and no lock is taken. Contracts see
 /// which gauge it is, and the number of its nodes.

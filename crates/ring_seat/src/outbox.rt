@@ -25,7 +25,7 @@ pub struct Outbox<A: Allocator + Copy + Drop = Global> {
     pub line: u32,
     /// The encodings of the frames in `frames`, one after another.
     pub text: BytesMut<A>,
-    /// The copied frames, in the order of their indexes in the line.
+    /// The copied frames, in the order in which they were added.
     pub frames: OutboxFrames<A>,
     /// The number of dropped copies: one for each receiver of a frame for which an allocation failed.
     pub dropped: u32,
@@ -52,6 +52,8 @@ impl<A: Allocator + Copy + Drop> Outbox<A> {
     }
 
     /// Begins line `line`: removes all frames, sets `dropped` to 0, and keeps the capacity.
+    ///
+    /// Does not allocate.
     ///
     /// Rules: The book and the threads 21
     pub fn start_line(&mut self, line: u32)
@@ -87,10 +89,10 @@ impl<A: Allocator + Copy + Drop> Outbox<A> {
         }
     }
 
-    /// Returns the bytes of the frame at index `index` of `frames`, counted from 0, or `None` if there is no such
-    /// frame.
+    /// Returns the bytes of the frame at index `index` of `frames`, counted from 0.
     ///
-    /// If the outbox is whole, which means that `text` has the bytes of all its frames, every frame has its bytes.
+    /// Returns `None` if there is no such frame, or if `text` is too short to have its bytes. The latter can't happen
+    /// while the outbox is whole: `text` has the bytes of all its frames. Does not allocate.
     ///
     /// Rules: The book and the threads 21
     pub fn bytes_at(&self, index: usize) -> Option<&[u8]>

@@ -58,7 +58,9 @@ impl<A: Allocator + Copy + Drop> OutboxFrames<A> {
         }
     }
 
-    /// Returns the frames, in the order of their indexes in the line.
+    /// Returns the frames, in the order in which they were added.
+    ///
+    /// Rules: The book and the threads 21
     pub fn as_slice(&self) -> &[OutboxFrame]
         ensures { result.now ≡ self.now }
     {
@@ -66,6 +68,8 @@ impl<A: Allocator + Copy + Drop> OutboxFrames<A> {
     }
 
     /// Returns the frame at index `index` of the list, counted from 0, or `None` if there is no such frame.
+    ///
+    /// Rules: The book and the threads 21
     #[tactic(auto, using(ring_base::proofs::ListPlaces::item_copied))]
     pub fn get(&self, index: usize) -> Option<OutboxFrame>
         ensures { result ≡ slice_get self.now index }
@@ -107,9 +111,8 @@ impl<A: Allocator + Copy + Drop> OutboxFrames<A> {
 
     /// Appends a frame, and returns whether it did.
     ///
-    /// Returns false, and changes nothing, if an allocation fails.
-    ///
-    /// The frame's bytes must end no earlier than those of the frames before it.
+    /// Returns false, and changes nothing, if an allocation fails. The frame's bytes must end no earlier than those of
+    /// the frames before it.
     pub(crate) fn push(&mut self, outbox_frame: OutboxFrame) -> bool
         requires { end_of self.old ≤ outbox_frame.end }
         ensures { self.new ≡ (if result then self.old ++ outbox_frame ∷ [] else self.old) }

@@ -15,7 +15,7 @@ use std::alloc::{Allocator, Global};
 use std::marker::Model;
 use std::mem;
 
-/// `Seat`: a thread's handle on a host: a node's own seat, or a seat of no node.
+/// A thread's handle on a host: a node's own seat, or a seat of no node.
 ///
 /// It has a clock, an outbox, and what the thread needs to publish and look. Contracts see its gauge, its node, the
 /// lengths published on it, the words that it saw, and its clock.
@@ -67,6 +67,8 @@ impl<A: Allocator + Copy + Drop> Seat<A> {
 
     /// Returns the node whose own seat it is, one of the gauge's nodes, or `None` for a seat of no node.
     ///
+    /// Does not allocate.
+    ///
     /// Rules: The book and the threads 19
     pub fn node(&self) -> Option<Proc>
         ensures node { result ≡ self.now.node }
@@ -77,6 +79,8 @@ impl<A: Allocator + Copy + Drop> Seat<A> {
 
     /// Returns a copy of the seat's clock.
     ///
+    /// Does not allocate.
+    ///
     /// Rules: The book and the threads 30 to 32
     pub fn clock(&self) -> TurnClock
         ensures { result ≡ self.now.clock }
@@ -84,7 +88,10 @@ impl<A: Allocator + Copy + Drop> Seat<A> {
         self.clock
     }
 
-    /// Counts a turn that begins, and returns the timeout to run in it, or `None`, as [`TurnClock::tick`] does.
+    /// Counts a turn that begins, and returns the timeout to run in this turn, or `None` if none is due.
+    ///
+    /// If several are due, it is the first in the order join, retransmit, consensus, loss. It begins to count again,
+    /// and the others stay due. Call it once for each turn. Does not allocate.
     ///
     /// Rules: The book and the threads 31 and 32
     pub fn tick(&mut self) -> Option<Kind>
@@ -94,8 +101,9 @@ impl<A: Allocator + Copy + Drop> Seat<A> {
         self.clock.tick()
     }
 
-    /// Notes that the turn took a token or a commit token that the step didn't ignore, as
-    /// [`TurnClock::note_taken_token`] does.
+    /// Notes that the present turn took a token or a commit token: all timeouts but join begin to count again from it.
+    ///
+    /// Call it only if the step didn't ignore the token. Does not allocate.
     ///
     /// Rules: The book and the threads 31
     pub fn take(&mut self)
@@ -104,9 +112,9 @@ impl<A: Allocator + Copy + Drop> Seat<A> {
         self.clock.note_taken_token();
     }
 
-    /// Takes the outbox, with its capacity, and leaves an empty one in the seat.
+    /// Removes and returns the outbox, with its frames and its capacity, and leaves an empty one in the seat.
     ///
-    /// Does not allocate.
+    /// [`put_outbox`](Seat::put_outbox) puts it back, so that its capacity is used again. Does not allocate.
     ///
     /// Rules: The book and the threads 21
     pub fn take_outbox(&mut self) -> Outbox<A>
@@ -116,7 +124,7 @@ impl<A: Allocator + Copy + Drop> Seat<A> {
         mem::replace(&mut self.outbox, none)
     }
 
-    /// Puts an outbox back into the seat.
+    /// Puts an outbox into the seat, as it is.
     ///
     /// The one there is dropped. Does not allocate.
     ///

@@ -86,9 +86,9 @@ impl TurnClock {
         None
     }
 
-    /// Notes that the turn took a token or a commit token that the step didn't ignore.
+    /// Notes that the present turn took a token or a commit token: all timeouts but join begin to count again from it.
     ///
-    /// All timeouts but join begin to count again.
+    /// Call it only if the step didn't ignore the token.
     ///
     /// Rules: The book and the threads 31
     pub fn note_taken_token(&mut self)

@@ -18,7 +18,7 @@ impl<O: Object> World<O> {
     ///
     /// `event` must be the one that `run_one`, or `run` of only this event, has just run with Ok. Only a delivery and a
     /// timeout can stop a node in this way: a `Stop` event stops its node on request. `stopped_for_memory_law` states
-    /// that the result is exact.
+    /// that the result is exact. Does not allocate.
     ///
     /// Rules: The book and the threads 7; Refusals 6
     pub fn stopped_for_memory(&self, event: &Event<O::Alloc>) -> Option<Proc>

@@ -80,8 +80,9 @@ impl<O: Object> Pump<O> {
     /// Runs one event in the world, and opens a copy for each receiver of each frame that the event's step sends.
     ///
     /// No copy is closed, even if the event delivers its frame. A call in the event must be within the limits of a
-    /// call, as every one from `Call::new` is. If an allocation fails in the step itself, that isn't an error: the node
-    /// has stopped, and the world records the event as `Stop`.
+    /// call, as every one from `Call::new` is. An allocation that fails in the node isn't an error. If it fails in a
+    /// step, the node has stopped for good, and the world records `Stop` instead of the event; if it fails in a submit,
+    /// the world records only the refusal.
     ///
     /// Errors: `Memory` if an allocation for the world's records fails; nothing has then changed.
     ///
@@ -97,9 +98,7 @@ impl<O: Object> Pump<O> {
 
     /// Returns the first open copy, or `None` if none is open.
     ///
-    /// The copy stays open.
-    ///
-    /// Of the frame that was sent first, it is the copy to the smallest receiver.
+    /// Of the open copies of the earliest frame it is the one to the smallest receiver. It stays open.
     ///
     /// Formats: Pump
     pub fn first_open_copy(&self) -> Option<OpenCopy>
@@ -110,7 +109,8 @@ impl<O: Object> Pump<O> {
 
     /// Closes the first open copy and returns it, or returns `None` if none is open.
     ///
-    /// The world is unchanged: the caller delivers the copy by a `Deliver` event, or lets it be lost.
+    /// It is the copy that [`first_open_copy`](Pump::first_open_copy) returns. The world is unchanged: the caller
+    /// delivers the copy with a `Deliver` event, or lets it be lost.
     ///
     /// Formats: Pump
     pub fn close_first_copy(&mut self) -> Option<OpenCopy>

@@ -183,13 +183,14 @@ impl<O: Object> World<O> {
         ran
     }
 
-    /// Runs one event, as `run` does, except that `done` keeps its value.
+    /// Runs one event, after those that were run before.
     ///
-    /// The event is done whole or not at all, since room for it is made before its step.
+    /// A call in it must be within the limits of a call, as every one from `Call::new` is. Ok doesn't mean that no
+    /// allocation failed in the step or the submit: see [`run`](World::run). `done` is unchanged.
     ///
     /// Errors: `Memory` if an allocation for the world's records fails; nothing has then changed.
     ///
-    /// Rules: The book and the threads 2 to 4, 6 to 8; Sessions 10 and 11; Outputs 11
+    /// Rules: The book and the threads 2 to 4, 6 to 8; Sessions 10 and 11; Outputs 11; Refusals 6
     pub fn run_one(&mut self, event: &Event<O::Alloc>) -> Result<(), Fault>
         requires fits { EventFits event.now }
         ensures ok { OnOk result (IsEventOutcome O.sequential event.now self.old self.new) }
@@ -248,7 +249,7 @@ impl<O: Object> World<O> {
 
     /// Returns the number of events that the last `run` did, or 0 before the first `run`.
     ///
-    /// `run_one` doesn't change it.
+    /// `run_one` doesn't change it. Does not allocate.
     ///
     /// Rules: The book and the threads 8
     pub fn done(&self) -> u64
@@ -259,7 +260,8 @@ impl<O: Object> World<O> {
 
     /// Returns all events since the opening, in order.
     ///
-    /// A step in which an allocation failed is there as `Stop`. A submit in which one failed is left out.
+    /// A step in which an allocation failed is there as `Stop`. A submit in which one failed is left out. Does not
+    /// allocate.
     ///
     /// Rules: The book and the threads 7 and 8
     pub fn events(&self) -> &[Event<O::Alloc>]
@@ -270,7 +272,8 @@ impl<O: Object> World<O> {
 
     /// Returns the reports to clients, which are the answers and the refused submits, in the order of events.
     ///
-    /// Apart from submits in which an allocation failed, these are the reports of the run of `events`.
+    /// Apart from submits in which an allocation failed, these are the reports of the run of `events`. Does not
+    /// allocate.
     ///
     /// Rules: The book and the threads 5 and 7
     pub fn told(&self) -> &[Told<O::Alloc>]
@@ -282,9 +285,9 @@ impl<O: Object> World<O> {
 
     /// Returns the history of the run: the issued calls and the replies, in the order of events.
     ///
-    /// A refused submit and an answer without a reply aren't in it.
+    /// A refused submit and an answer without a reply aren't in it. Does not allocate.
     ///
-    /// Rules: Sessions 9
+    /// Rules: The book and the threads 8; Sessions 9
     pub fn history(&self) -> &[Item<O::Alloc>]
         ensures { result.now ≡ (world_of O.sequential self.now).history }
     {
@@ -298,7 +301,7 @@ impl<O: Object> World<O> {
     ///
     /// Errors: `Memory` if an allocation fails.
     ///
-    /// Rules: Sessions 6 and 10
+    /// Rules: The book and the threads 8; Sessions 6 and 10
     pub fn order(&self) -> Result<Vec<Call<O::Alloc>, O::Alloc>, Fault>
         ensures ok { IfOk result (λ calls. calls.items ≡ order (world_of O.sequential self.now)) }
         ensures refused { IfErr result (λ fault. fault ≡ Memory) }
@@ -346,7 +349,7 @@ impl<O: Object> World<O> {
 
     /// Returns the node of a processor, after the events that have been run so far.
     ///
-    /// The processor must be one of the group, 1 to N.
+    /// The processor must be one of the group, 1 to N. Does not allocate.
     ///
     /// Rules: The book and the threads 8
     pub fn node(&self, node: Proc) -> &Node<O>
@@ -358,7 +361,7 @@ impl<O: Object> World<O> {
 
     /// Returns the sender and the receivers of frame `number`, or `None` if no frame with this number was sent.
     ///
-    /// Frames are numbered from 1 in the order of sending.
+    /// Frames are numbered from 1 in the order of sending. Does not allocate.
     ///
     /// Rules: The book and the threads 3 and 8
     pub fn frame(&self, number: u64) -> Option<(Proc, ProcSet)>
@@ -369,6 +372,8 @@ impl<O: Object> World<O> {
 
     /// Returns the encodings of all frames ever sent, one after another in the order of sending.
     ///
+    /// A frame to several receivers is there once. Does not allocate.
+    ///
     /// Rules: The book and the threads 3
     /// Formats: Frames
     pub fn sent_text(&self) -> &[u8]
@@ -378,6 +383,8 @@ impl<O: Object> World<O> {
     }
 
     /// Returns the world's group: the number of processors, and their votes.
+    ///
+    /// Does not allocate.
     ///
     /// Rules: Processors and sets 1
     pub fn fixed(&self) -> Fixed

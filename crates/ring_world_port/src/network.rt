@@ -105,10 +105,9 @@ impl<O: Object> Network<O> {
 
     /// Sets the group of processors that hear each other.
     ///
-    /// Processors outside the world are left out.
-    ///
-    /// If `group` has all processors, the cut has healed. A copy is lost if its sender or receiver is outside the group
-    /// when it is closed, even if it was open before the cut.
+    /// Processors outside the world are left out. Pass all processors to heal a cut. A copy is lost if its sender or
+    /// receiver is outside the group when it is closed, even if it was open before the cut. Without members no node
+    /// times out.
     ///
     /// Rules: Clients 8
     pub fn cut(&mut self, group: ProcSet)
@@ -128,7 +127,8 @@ impl<O: Object> Network<O> {
 
     /// Submits a copy of a call at a node.
     ///
-    /// After Ok the node has taken it, and the world has the event.
+    /// After Ok the node has taken it, and the world has the event. The open copies, the group and the count of
+    /// timeouts are unchanged.
     ///
     /// Errors with nothing changed, in this order: `NotMember` if the world has no such node. `OpTooLong` if the
     /// operation has more than 1,024 bytes. `NumberGap` if the call's number is 0. `Memory` if an allocation for the
@@ -162,7 +162,8 @@ impl<O: Object> Network<O> {
     /// Performs the turn that is due.
     ///
     /// It closes the first open copy, and delivers or loses it. If no copy is open, the next timeout of a member of the
-    /// group runs and is counted; without members it is only counted.
+    /// group runs and is counted; without members it is only counted. The count saturates at `u64::MAX`. An allocation
+    /// that fails in the node isn't an error: see [`Pump::run_event`].
     ///
     /// Errors: `Memory` if an allocation for the world's records fails. A closed copy is then lost, and nothing else
     /// has changed.
@@ -180,11 +181,11 @@ impl<O: Object> Network<O> {
         }
     }
 
-    /// Runs an event that no turn produces, such as a stop.
+    /// Runs one event in the world, such as a stop, which no turn produces.
     ///
-    /// The copies of the frames that it sends are then open.
-    ///
-    /// A call in the event must be within the limits of a call, as every one from `Call::new` is.
+    /// A copy is opened for each receiver of each frame that it sends, and none is closed. The group and the count of
+    /// timeouts are unchanged. A call in the event must be within the limits of a call, as every one from `Call::new`
+    /// is. An allocation that fails in the node isn't an error: see [`Pump::run_event`].
     ///
     /// Errors: `Memory` if an allocation for the world's records fails; nothing has then changed.
     ///

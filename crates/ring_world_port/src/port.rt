@@ -25,10 +25,9 @@ pub type SharedNetwork<O: Object> = Rc<RefCell<Network<O>>, O::Alloc>;
 
 /// A port to a node of a world.
 ///
-/// The ports to its nodes share one network.
-///
-/// Each poll that finds no answer makes the network perform a turn. While another holder has the network borrowed, a
-/// submit is refused with `NoAnswer`, and a poll finds no answer and performs no turn.
+/// The ports to its nodes share one network. Each poll that finds no answer makes the network perform a turn. While
+/// another holder has the network borrowed, a submit is refused with `NoAnswer`, and a poll finds no answer and
+/// performs no turn.
 ///
 /// Rules: Clients 2 and 8
 #[derive(Drop)]
@@ -96,8 +95,11 @@ impl<O: Object> Port for WorldPort<O> {
     /// Submits a copy of the call at the port's node, records it in `asked`, and returns the ticket to poll for the
     /// answer.
     ///
-    /// Errors: `NoAnswer` while another holder has the network borrowed. Otherwise those of [`Network::submit`].
-    /// `asked` has the refusal.
+    /// Never waits.
+    ///
+    /// Errors: `NoAnswer` while another holder has the network borrowed. Otherwise those of [`Network::submit`], in its
+    /// order: `NotMember`, `OpTooLong`, `NumberGap` and `Memory` with the network unchanged, then `Stopped`,
+    /// `PendingFull` or `Memory` of the node. `asked` has the refusal.
     ///
     /// Rules: Clients 2 and 8
     fn submit(&mut self, call: &Call<O::Alloc>) -> Result<WorldTicket, Fault>
@@ -119,7 +121,8 @@ impl<O: Object> Port for WorldPort<O> {
     /// Returns the answer that the port's node gave to the ticket's call in the world's run, or `None` if there is none
     /// yet.
     ///
-    /// In the second case the network has performed a turn, unless another holder has it borrowed.
+    /// With an answer the network is unchanged. Without one it has performed a turn, unless another holder has it
+    /// borrowed; an error of the turn is ignored. Never waits. That the ticket is one of this network isn't checked.
     ///
     /// Rules: Clients 2 and 8
     fn poll(&mut self, ticket: &WorldTicket) -> Option<Answer>
@@ -134,6 +137,8 @@ impl<O: Object> Port for WorldPort<O> {
     }
 
     /// Returns the record of the last submit at the port, with the polls since.
+    ///
+    /// Does not allocate.
     ///
     /// Rules: Clients 2
     fn asked(&self) -> &Asked {

@@ -27,7 +27,7 @@ use std::alloc::Global;
 
 /// Opens processor `me`, counted from 1, of a group with these votes, 1 to 255 each, and puts it into an empty handle.
 ///
-/// Returns a status: 0 if the node was opened.
+/// Its timeouts have the default periods. Returns a status: 0 if the node was opened.
 ///
 /// Errors, as numbers: 255 if the handle isn't empty; 1 unless there are 1 to 16 votes of 1 to 255 and `me` is 1 to
 /// their number; 11 if an allocation fails. The handle is then unchanged.
@@ -42,9 +42,12 @@ pub extern "C" fn totem_c_open(alloc: Global, handle: &mut Handle, me: u32, vote
 }
 
 /// Opens processor `me` of a group with these votes, as `totem_c_open` does, with these periods of its timeouts, in
-/// milliseconds.
+/// milliseconds, each at least 1.
 ///
-/// Errors, as numbers: 255 if a period is 0, and nothing is done; otherwise as for `totem_c_open`.
+/// Returns a status: 0 if the node was opened.
+///
+/// Errors, as numbers: 255 if a period is 0 or the handle isn't empty; 1 unless there are 1 to 16 votes of 1 to 255 and
+/// `me` is 1 to their number; 11 if an allocation fails. The handle is then unchanged.
 ///
 /// Rules: Nodes that records drive 1 and 7; A node with a clock 3
 /// Formats: A library for C
@@ -70,8 +73,9 @@ pub extern "C" fn totem_c_open_timed(
 
 /// Carries out a record's request at the handle's node.
 ///
-/// The record has the kind `kind` and the bytes `bytes`. The records that the node produces can then be read with
-/// `totem_c_read`. Returns a status: 0 if the request was carried out.
+/// The record has the kind `kind` and the bytes `bytes`. The records that the node produces follow those that are still
+/// unread; `totem_c_read` reads them. Returns a status: 0 if the request was carried out, even if a record says that
+/// the node refused it.
 ///
 /// Errors, as numbers, in this order: 255 if the handle is empty; 8 if the node is gone; 12 if the record is not a
 /// valid request; 11 if an allocation fails. After 11 the node is gone, with everything unread: close the handle. After
@@ -88,6 +92,8 @@ pub extern "C" fn totem_c_take(alloc: Global, handle: &mut Handle, kind: u8, byt
 }
 
 /// Moves the first unread bytes of the handle's node to the front of `into`, and returns their number.
+///
+/// These bytes are then no longer unread, and the node is unchanged. What the rest of `into` has is unspecified.
 ///
 /// Returns 0 only if no byte is unread, `into` is empty or the handle is empty. Unread bytes may be left even if the
 /// result is less than the length of `into`.
