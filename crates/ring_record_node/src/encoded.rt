@@ -1,4 +1,5 @@
 //! The outputs of a step, with its frames already encoded.
+//!
 //! Rules: Nodes that records drive 3 and 4
 
 ghost use Rattle.std.specs.Prelude.{◌≡◌, [], ◌++◌, OnOk, IfErr};

@@ -1,4 +1,5 @@
-//! A node whose steps give encoded frames.
+//! A node whose steps return encoded frames.
+//!
 //! Rules: Nodes that records drive 2 to 4; Refusals 4 and 6
 
 ghost use Rattle.std.specs.Prelude.{◌≡◌, false, if◌then◌else◌, None, Some, OnOk, OnErr, IfOk, IfErr};
