@@ -1,5 +1,5 @@
-//! The lock table on three nodes on threads, one of which has stopped. Two clients on threads ask for the same ten locks, and
-//! each gets some of them.
+//! The lock table on three nodes on threads, one of which has stopped. Two clients on threads ask for the same ten
+//! locks, and each gets some of them.
 
 use crate::lock_operation::LockOperation;
 use crate::locks::Locks;
@@ -60,7 +60,11 @@ where
     Ok(count)
 }
 
-/// Prints the number of calls.
+/// Runs the scenario, and prints the number of calls in the one order, or the fault if it is refused.
+///
+/// Waits for the threads.
+///
+/// Errors: those of standard output.
 pub fn print_results<R: AllocGlobal + Print + Threads + Wait + Sync>(rt: &R) -> io::Result<()> {
     match count::<Locks, _>(rt, rt.alloc()) {
         Ok(count) => {

@@ -21,8 +21,11 @@ const SCRIPT: &str = "nodes 3\n\
     call 2 7 2 raw 01070000000000000016\n\
     pump 100\n";
 
-/// Runs the command of these words, the first of which is the program's own name. Returns the exit status. Reader and writers are
-/// `dyn`, so that all commands are compiled for one of each.
+/// Runs the command of these words, the first of which is the program's own name, and returns the exit status.
+///
+/// The reader and the writers are `dyn`, so that all commands are compiled for one of each.
+///
+/// Errors: as for `run_of` of `totem_command`.
 pub fn run<R: Files + AllocGlobal + Threads + Wait + Clock + Sync>(
     rt: &R,
     words: &io::Result<Vec<String>>,
@@ -37,7 +40,9 @@ pub fn run<R: Files + AllocGlobal + Threads + Wait + Clock + Sync>(
 }
 
 /// Prints five outputs of the program: of the script; of a sweep of it, with a stop or a cut of each node before any
-/// event; of made scripts; the replies in a trace; and those in its page.
+/// event; of generated scripts; the replies in a trace; and those in its page.
+///
+/// Errors: those of standard output, or of kind `OutOfMemory` if an allocation fails.
 pub fn print_results<R: Files + AllocGlobal + Print + Threads + Wait + Clock + Sync>(
     rt: &R,
 ) -> io::Result<()> {

@@ -1,4 +1,4 @@
-//! The examples. The exit status is 0 only where all could be printed, and each example that is data printed the expected output.
+//! The examples. The exit status is 0 only if all could be printed, and each example that is data printed the expected output.
 //!
 //! - `counter` drives a node from a user's program.
 //! - `client` has a client of three nodes, the first of which is cut off. `outage` has one that asks until it is answered, while

@@ -3,7 +3,7 @@
 //!
 //! Three nodes keep a counter, to which the client adds 1 three times. It tries nodes 1 and 2.
 //!
-//! - Node 1 hears nobody, and node 2 calls for a ring. Node 1 waits in vain; nodes 2 and 3 are a majority and answer.
+//! - Node 1 hears nobody, and node 2 calls for a ring. Node 1 gives no answer; nodes 2 and 3 are a majority and answer.
 //! - All hear each other, node 2 stops, and node 1 calls for a ring. It answers, in a ring with node 3, which knows of the first
 //!   call.
 //! - Node 1 hears nobody again, and node 2 has stopped, so nobody can answer. After three tries the client gives up, and its call
@@ -35,7 +35,9 @@ struct OutageSummary {
     read: u64,
 }
 
-/// Runs the scenario and prints its results.
+/// Runs the scenario and prints its results, or the fault if it is refused.
+///
+/// Errors: those of standard output.
 pub fn print_results<R: AllocGlobal + Print>(rt: &R) -> io::Result<()> {
     match call_through::<Counters>(rt.alloc()) {
         Ok(summary) => print_summary(rt, &summary),

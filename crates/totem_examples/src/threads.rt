@@ -1,9 +1,9 @@
 //! Three nodes on threads, one of which has stopped, and two clients on threads that add to a counter.
 //!
-//! Client 1 tries node 1 first, and client 2 node 3, which has stopped. Where a node refuses the call or doesn't answer, the
-//! client passes on to the next one with the same call under the same number. Where none of them answers, it begins again. So
-//! each call takes effect once, whatever the threads' timing: nodes 1 and 2 give up node 3 and form a ring without it, and the
-//! one order has 20 calls.
+//! Client 1 tries node 1 first, and client 2 node 3, which has stopped. If a node refuses the call or doesn't answer,
+//! the client moves on to the next one with the same call under the same number. If none answers, it starts over. So
+//! each call takes effect once, whatever the threads' timing: nodes 1 and 2 give up node 3 and form a ring without it,
+//! and the one order has 20 calls.
 
 use std::io;
 use std::sync::Wait;
@@ -54,7 +54,11 @@ where
     Ok(count)
 }
 
-/// Prints the number of calls.
+/// Runs the scenario, and prints the number of calls in the one order, or the fault if it is refused.
+///
+/// Waits for the threads.
+///
+/// Errors: those of standard output.
 pub fn print_results<R: AllocGlobal + Print + Threads + Wait + Sync>(rt: &R) -> io::Result<()> {
     match count::<Counters, _>(rt, rt.alloc()) {
         Ok(calls) => {
