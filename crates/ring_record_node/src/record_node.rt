@@ -245,8 +245,8 @@ impl<O: Object> RecordNode<O> {
         }
     }
 
-    /// Brings a time: makes a step on each timeout that is due at it, in order, and writes the outputs of all and the end. Where
-    /// the output fails, the remaining steps are made nevertheless.
+    /// Brings a time: makes a step on each timeout that is due at it, in order, and writes the outputs of all and the
+    /// end. Where the output fails, the remaining steps are made nevertheless.
     fn bring_time<W: Write>(&mut self, now: u64, out: &mut W) -> io::Result<()>
         ensures { HasWrittenUnlessFailed result (W.contents out.old) (W.contents out.new) (IsTimeBrought O.sequential now self.old self.new) }
     {
@@ -441,8 +441,8 @@ impl<O: Object> RecordNode<O> {
         }
     }
 
-    /// Returns whether a step gave one frame at most and nothing else, and left the node with its ring installed and all of its log
-    /// committed.
+    /// Returns whether a step gave one frame at most and nothing else, and left the node with its ring installed and
+    /// all of its log committed.
     fn is_idle(&self, encoded: &EncodedStep<O::Alloc>) -> bool
         ensures { result ≡ is_idle self.now.node encoded.now.outs.sends.items encoded.now.outs.answers.items encoded.now.outs.restored
             encoded.now.outs.committed.items encoded.now.has_installed }

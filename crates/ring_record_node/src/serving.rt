@@ -85,8 +85,8 @@ pub fn serve_with_periods<O: Object, R: Read, W: Write, E: Write>(
     }
 }
 
-/// Takes the records of the input, and writes the node's output. `Refused` with `NotMember`, before anything else, or with
-/// `Memory`; `BadFrame` at the first byte of a faulty record; `Output`.
+/// Takes the records of the input, and writes the node's output. `Refused` with `NotMember`, before anything else, or
+/// with `Memory`; `BadFrame` at the first byte of a faulty record; `Output`.
 fn serve_all<O: Object, R: Read, W: Write>(
     alloc: O::Alloc,
     fixed: Fixed,
@@ -111,7 +111,8 @@ fn serve_all<O: Object, R: Read, W: Write>(
     served
 }
 
-/// Has the borrowed node take the records of the input until none is left, and writes its output. Fails as `serve_all` does.
+/// Has the borrowed node take the records of the input until none is left, and writes its output. Fails as `serve_all`
+/// does.
 fn serve_records<O: Object, R: Read, W: Write>(
     node: &mut RecordNode<O>,
     input: &mut R,
@@ -141,8 +142,9 @@ fn room_for_bytes<A: Allocator + Copy>(alloc: A) -> Result<Vec<u8, A>, Fault>
     Ok(Vec::with_capacity(alloc, MAX_RECORD_BYTES)?)
 }
 
-/// Takes the next record of the input, whose first byte has index `at`, and writes out the node's output. Returns the index of
-/// the first byte after it: `None` where no record is left. The whole output is built in `told` before any of it is written.
+/// Takes the next record of the input, whose first byte has index `at`, and writes out the node's output. Returns the
+/// index of the first byte after it: `None` where no record is left. The whole output is built in `told` before any of
+/// it is written.
 ///
 /// Errors:
 /// - `Refused` with `Memory`, or `BadFrame` at this index where the record is faulty: nothing is written.
@@ -193,8 +195,8 @@ fn write_out<W: Write>(bytes: &[u8], out: &mut W) -> io::Result<()>
     out.flush()
 }
 
-/// Writes a prefix of the bytes and returns its length: 0 only where there are none or `out` fails. It repeats an interrupted
-/// write.
+/// Writes a prefix of the bytes and returns its length: 0 only where there are none or `out` fails. It repeats an
+/// interrupted write.
 fn write_some<W: Write>(bytes: &[u8], out: &mut W) -> usize
     ensures bound { result ≤ length bytes.now }
     ensures front { Appends (W.contents out.old) (W.contents out.new) (take result bytes.now) }

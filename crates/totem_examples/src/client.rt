@@ -163,8 +163,8 @@ fn unanswered_polls<P: Port>(client: &Client<P>) -> u64 {
     }
 }
 
-/// Lets all nodes hear each other again: this one calls for the others, and the network takes its turns. Returns the number of
-/// calls that the node has committed then, and the number in the order.
+/// Lets all nodes hear each other again: this one calls for the others, and the network takes its turns. Returns the
+/// number of calls that the node has committed then, and the number in the order.
 fn heal<O: Object>(shared: &Shared<O>, node: Proc) -> Result<(u64, u64), Fault> {
     let Ok(mut network) = shared.try_borrow_mut() else {
         return Err(Fault::NoAnswer);

@@ -10,13 +10,15 @@
 //! - `NAME.explain` is run by `totem script --explain`.
 //! - `NAME.trace` and `NAME.svg` are the expected output of `totem trace` for `NAME.script`, as text and as a picture.
 //! - `NAME.claims` has a command line, and in its other lines claims on what it prints (`expected`).
-//! - `NAME.same` has command lines that all print the same, and `NAME.broken` one whose standard output fails (`repeated`).
-//! - `NAME.out` is the expected standard output; of a `NAME.legal` its expected end; of a `NAME.records` in hexadecimal.
-//! - `NAME.fault` has the expected exit status, a space, and the expected standard error. `2 ...` stands for a bad command line
-//!   with any message.
+//! - `NAME.same` has command lines that all print the same, and `NAME.broken` one whose standard output fails
+//!   (`repeated`).
+//! - `NAME.out` is the expected standard output; of a `NAME.legal` its expected end; of a `NAME.records` in
+//!   hexadecimal.
+//! - `NAME.fault` has the expected exit status, a space, and the expected standard error. `2 ...` stands for a bad
+//!   command line with any message.
 //!
-//! If `NAME.out` is missing, standard output must be empty. If `NAME.fault` is missing, standard error must be empty and
-//! the exit status 0.
+//! If `NAME.out` is missing, standard output must be empty. If `NAME.fault` is missing, standard error must be empty
+//! and the exit status 0.
 //!
 //! Formats: The command line
 

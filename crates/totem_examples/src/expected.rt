@@ -94,7 +94,8 @@ fn write_fault(printed: &CommandOutput, fault: &mut Vec<u8>) -> io::Result<()> {
     fault.write_all(printed.err.as_slice())
 }
 
-/// Returns whether each claim in the lines of a text, but for its first line, is true of an output. There is one at least.
+/// Returns whether each claim in the lines of a text, but for its first line, is true of an output. There is one at
+/// least.
 fn meets_claims(text: &[u8], out: &[u8]) -> bool {
     let (Ok(text), Ok(out)) = (str::from_utf8(text), str::from_utf8(out)) else {
         return false;

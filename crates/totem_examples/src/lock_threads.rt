@@ -8,7 +8,8 @@ use std::sync::Wait;
 use std::thread::Threads;
 use totem_ring::{Caller, Client, Fault, Fixed, Object, Port, run_callers};
 
-/// The most times that a client tries again a call that no node has answered: the nodes may still be forming their ring.
+/// The most times that a client tries again a call that no node has answered: the nodes may still be forming their
+/// ring.
 const TRIES: u64 = 1_000;
 
 /// A client that asks for ten locks for `holder`; `first` is the node that it tries first.

@@ -1,4 +1,5 @@
-//! The lock table's own program, which has the commands of the program `totem` with its own words, and the output for a script.
+//! The lock table's own program, which has the commands of the program `totem` with its own words, and the output for a
+//! script.
 
 use crate::lock_vocabulary::LockVocabulary;
 use crate::locks::Locks;
@@ -11,7 +12,8 @@ use std::time::Clock;
 use std::{io, str};
 use totem_command::run_of;
 
-/// Three nodes settle. Client 7 acquires lock 7 for holder 11, in words, and then for holder 22, by the operation's bytes.
+/// Three nodes settle. Client 7 acquires lock 7 for holder 11, in words, and then for holder 22, by the operation's
+/// bytes.
 const SCRIPT: &str = "nodes 3\n\
     timeout 1 join\n\
     timeout 2 join\n\

@@ -1,9 +1,9 @@
 //! Examples that are data and run command lines several times.
 //!
 //! - The command lines of a `NAME.same` all print the same, and end well.
-//! - The one in the first line of a `NAME.broken` runs once for each number in the other lines. Its standard output takes this
-//!   number of bytes, and then fails. If it takes fewer than the command writes, the exit status is 1. Nothing is written on
-//!   standard error.
+//! - The one in the first line of a `NAME.broken` runs once for each number in the other lines. Its standard output
+//!   takes this number of bytes, and then fails. If it takes fewer than the command writes, the exit status is 1.
+//!   Nothing is written on standard error.
 //!
 //! Formats: The command line
 
