@@ -44,7 +44,7 @@ pub fn run<R: Files + AllocGlobal + Threads + Wait + Clock + Sync>(
 /// Prints five outputs of the program: of the script; of a sweep of it, with a stop or a cut of each node before any
 /// event; of generated scripts; the replies in a trace; and those in its page.
 ///
-/// Errors: those of standard output, or of kind `OutOfMemory` if an allocation fails.
+/// Errors: those of standard output.
 pub fn print_results<R: Files + AllocGlobal + Print + Threads + Wait + Clock + Sync>(
     rt: &R,
 ) -> io::Result<()> {
