@@ -74,7 +74,8 @@ impl<A: Allocator + Copy> FrameReader<A> {
 
     /// Decodes the next frame of the input into `next`, in place, so no frame is moved.
     ///
-    /// At the end of the input `next` becomes `None`. `input` must be the same in all calls.
+    /// At the end of the input `next` becomes `None`. `input` must be the same in all calls. It is read ahead, so it
+    /// may be further than the frames returned. Waits for `input`.
     ///
     /// Errors: `BadFrame` if the unread bytes begin with no frame, with the index of the first of them in the input,
     /// counted from 0, or with 0 if reading has failed, too. `Refused` with `Memory` if an allocation fails. `next` is

@@ -210,7 +210,7 @@ impl<O: Object> ScriptRun<O> {
 
 /// Returns whether the order of the run's world is legal for its history.
 ///
-/// The history has the calls and replies of the events run so far.
+/// The history has the calls and replies of the events run so far. The run is unchanged.
 ///
 /// Errors: `Memory` if an allocation fails.
 ///

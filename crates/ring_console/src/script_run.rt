@@ -83,7 +83,7 @@ impl<O: Object> ScriptRun<O> {
 
     /// Carries out the requests of the lines in order, and prints their outputs on `out`.
     ///
-    /// Each call in them must be within the limits of a call, as in every parsed script.
+    /// Each call in them must be within the limits of a call, as in every parsed script. `out` isn't flushed.
     ///
     /// Errors: `Output` if `out` fails; `Refused` with `Memory` if an allocation of the world itself fails. All earlier
     /// events stay done; with `Memory` they are printed, too.
@@ -142,7 +142,7 @@ impl<O: Object> ScriptRun<O> {
 
     /// Carries out the request of a line, and prints nothing.
     ///
-    /// The line `show` does nothing.
+    /// The line `show` does nothing. A call must be within the limits of a call, as in every parsed script.
     ///
     /// Errors: `Memory` if an allocation of the world itself fails. Nothing is then done, except in a pump: the earlier
     /// turns are done, and the copy of the failed turn is closed and not delivered.
@@ -177,10 +177,10 @@ impl<O: Object> ScriptRun<O> {
         }
     }
 
-    /// Cuts the nodes into these groups.
+    /// Cuts the nodes into these groups, in place of an earlier cut.
     ///
-    /// From then on, nodes of different groups don't hear each other. It replaces an earlier cut. Copies are lost to it
-    /// only when a turn of a pump takes them.
+    /// From then on, nodes of different groups don't hear each other. No copy is closed: a copy is lost to the cut only
+    /// when a turn of a pump takes it. Does not allocate.
     ///
     /// Formats: Scripts; Pump
     pub fn cut(&mut self, groups: Groups)
@@ -191,7 +191,7 @@ impl<O: Object> ScriptRun<O> {
 
     /// Removes the cut, if there is one.
     ///
-    /// From then on, all nodes hear each other. Copies that the cut has lost stay closed.
+    /// From then on, all nodes hear each other. Copies that the cut has lost stay closed. Does not allocate.
     ///
     /// Formats: Scripts; Pump
     pub fn heal(&mut self)
@@ -201,6 +201,8 @@ impl<O: Object> ScriptRun<O> {
     }
 
     /// Runs an event on the world, and opens a copy of each frame that the event sends for each of its receivers.
+    ///
+    /// A call must be within the limits of a call. The cut isn't consulted.
     ///
     /// Errors: `Memory` if an allocation of the world itself fails; nothing is done. A node whose allocation fails
     /// stops, which isn't an error.
@@ -234,11 +236,10 @@ impl<O: Object> ScriptRun<O> {
         Ok(())
     }
 
-    /// Returns the open copy that the next turn takes.
+    /// Returns the open copy that the next turn takes, or `None` if none is open.
     ///
-    /// It is that of the smallest frame number, and of these the one for the smallest receiver.
-    ///
-    /// Returns `None` if none is open. Nothing changes.
+    /// It is a copy of the frame with the smallest number that has open copies, and of these the one for the smallest
+    /// receiver. Nothing changes.
     ///
     /// Formats: Pump
     pub fn first_open_copy(&self) -> Option<OpenCopy>
@@ -249,7 +250,7 @@ impl<O: Object> ScriptRun<O> {
 
     /// Closes the open copy that the next turn takes, without delivering it, and returns it.
     ///
-    /// Returns `None` if none is open.
+    /// Returns `None`, and changes nothing, if none is open. The world and the cut are unchanged.
     ///
     /// Formats: Pump
     pub fn close_first_copy(&mut self) -> Option<OpenCopy>

@@ -20,11 +20,11 @@ use std::alloc::Allocator;
 /// Formats: Records
 #[derive(Clone, Copy, Debug, PartialEq, Eq)]
 pub struct NodeCounts {
-    /// The frames that the node received.
+    /// The frames that the node received, by kind.
     pub received: FrameCounts,
     /// The received inputs that aren't a frame.
     pub noise: u64,
-    /// The frames that the node sent.
+    /// The frames that the node sent, by kind.
     ///
     /// A frame to several receivers counts once.
     pub sent: FrameCounts,
@@ -36,7 +36,7 @@ pub struct NodeCounts {
     pub messages_again: u64,
     /// The tokens and commit tokens that the node sent at a retransmit timeout.
     pub tokens_again: u64,
-    /// The rings that the node installed.
+    /// The number of times that the node installed a ring.
     pub rings: u64,
     /// The inputs and calls that the node refused.
     ///
@@ -48,18 +48,18 @@ pub struct NodeCounts {
     pub answered: u64,
 }
 
-/// What a person reads of a node beside its counts.
+/// What a person reads of a node in addition to its counts.
 ///
-/// These numbers can also fall.
+/// These numbers can fall as well as rise.
 ///
 /// Formats: Records
 #[derive(Clone, Copy, Debug, PartialEq, Eq)]
 pub struct NodeGauges {
-    /// The calls that wait for their answers.
+    /// The number of submitted calls whose answers are still to come.
     pub waiting: u64,
-    /// The committed places, dropped ones included.
+    /// The number of committed places, including dropped ones.
     pub committed: u64,
-    /// The dropped places.
+    /// The number of dropped places.
     pub dropped: u64,
 }
 
@@ -85,6 +85,11 @@ impl NodeCounts {
 
     /// Counts a step: its input, the frames that it sent, the number of its answers, and whether it installed a ring.
     ///
+    /// The same as [`note_input`](NodeCounts::note_input), then [`note_sent`](NodeCounts::note_sent) for each frame,
+    /// then [`note_outcome`](NodeCounts::note_outcome). Call it once for each step that wasn't refused: a refused one
+    /// counts as a refusal alone.
+    ///
+    /// Rules: Nodes that records drive 8
     /// Formats: Records
     pub fn note_step<A: Allocator + Copy>(
         &mut self,
@@ -100,7 +105,9 @@ impl NodeCounts {
         self.note_outcome(input, has_sent_frame(sends), answers, has_installed);
     }
 
-    /// Counts the input of a step.
+    /// Counts the input of a step: a frame in `received` by its kind, or noise in `noise`.
+    ///
+    /// A timeout and a stop aren't counted. All other counts are unchanged.
     pub fn note_input(&mut self, input: CountedInput)
         ensures { self.new ≡ with_input input self.old }
     {
@@ -120,7 +127,12 @@ impl NodeCounts {
         }
     }
 
-    /// Counts a frame that a step on this input sent.
+    /// Counts a frame that a step on this input sent: in `sent` by its kind, and also in the count of what was sent
+    /// again if it was.
+    ///
+    /// A message is sent again if the input is a token whose `seq` is at least its number (`messages_again`). A token
+    /// or commit token is sent again if the input is a retransmit timeout (`tokens_again`). All other counts are
+    /// unchanged.
     pub fn note_sent(&mut self, input: CountedInput, sent: CountedFrame)
         ensures { self.new ≡ with_sent_frame input sent self.old }
     {
@@ -147,6 +159,10 @@ impl NodeCounts {
 
     /// Counts the outcome of a step on this input: whether it sent anything, the number of its answers, and whether it
     /// installed a ring.
+    ///
+    /// If the input is a token or a commit token, `tokens_taken` grows by 1 if the step sent anything, and
+    /// `tokens_ignored` otherwise. `answered` grows by `answers`, and `rings` by 1 if a ring was installed. All other
+    /// counts are unchanged.
     pub fn note_outcome(
         &mut self,
         input: CountedInput,
@@ -194,21 +210,24 @@ impl NodeCounts {
         }
     }
 
-    /// Counts an input or a call that was refused.
+    /// Counts an input or a call that was refused, in `refusals` alone.
+    ///
+    /// Rules: Nodes that records drive 8
     pub fn note_refusal(&mut self)
         ensures { self.new ≡ counts_after_refusal self.old }
     {
         self.refusals = self.refusals.saturating_add(1);
     }
 
-    /// Counts a call that got a ticket.
+    /// Counts a call that got a ticket, in `submitted` alone.
     pub fn note_submit(&mut self)
         ensures { self.new ≡ counts_after_submit self.old }
     {
         self.submitted = self.submitted.saturating_add(1);
     }
 
-    /// Returns all numbers in the order of the record of counts, those of `gauges` last.
+    /// Returns the 20 numbers in the order of the record of counts: the counts in the order of the fields of
+    /// `NodeCounts`, with those of `received` and `sent` in the order of theirs, and then the gauges.
     ///
     /// Formats: Records
     pub fn numbers(&self, gauges: NodeGauges) -> [u64; 20]

@@ -29,7 +29,7 @@ pub(crate) struct ExploreTotals {
 }
 
 impl ExploreTotals {
-    /// Returns the totals over no seeds: all counts are 0.
+    /// Returns the totals over no seeds: all counts are 0, and no run is illegal.
     pub fn new() -> ExploreTotals
         ensures illegal { result.illegal ≡ None }
         ensures totals { (result.events ≡ 0) × (result.calls ≡ 0) × (result.answered ≡ 0) × (result.rings ≡ 0) }
@@ -45,7 +45,8 @@ impl ExploreTotals {
 
     /// Adds the totals over seeds that come after all seeds so far.
     ///
-    /// The first illegal seed is kept, if there is one. Each count saturates at 2^64 - 1.
+    /// Each count grows by that of `other`, and saturates at 2^64 - 1. The first illegal seed is kept, if there is one;
+    /// otherwise that of `other` is taken over.
     ///
     /// Formats: The command line
     pub fn add(&mut self, other: &ExploreTotals)

@@ -32,8 +32,9 @@ const FIRST_ROUND_SEEDS: u64 = 16;
 /// Generates the script of each seed for the standard object, runs it, and checks that its run is legal.
 ///
 /// A run is legal if the order of its world is legal for its history. Works with `threads` threads, or one if that is
-/// 0. Prints the number of seeds, of events, of submitted calls, of answers and of installed rings, and `legal yes`.
-/// The printed text doesn't depend on the number of threads. Returns the exit status: 0, or 1 after an error.
+/// 0, and waits for them. Prints the number of seeds, of events, of submitted calls, of answers and of installed rings,
+/// and `legal yes`. The printed text doesn't depend on the number of threads. Returns the exit status: 0, or 1 after an
+/// error.
 ///
 /// Errors:
 ///
@@ -49,7 +50,7 @@ const FIRST_ROUND_SEEDS: u64 = 16;
 /// and each run is legal. No contract says which script a seed gives.
 ///
 /// If there is a `progress`, it gets the progress from the first second on, and at the end the sequence that clears it
-/// from a terminal.
+/// from a terminal. Errors of `progress` are ignored.
 ///
 /// Rules: Sessions 10
 /// Formats: The command line

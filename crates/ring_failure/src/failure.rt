@@ -103,7 +103,7 @@ impl fmt::Display for NumberedFault {
     }
 }
 
-/// Converts the result of writing to standard output to that of a command.
+/// Converts the result of a write to standard output into the result of a command.
 ///
 /// Errors: `Output` for any error of the writer.
 ///

@@ -17,8 +17,10 @@ use std::collections::VecDeque;
 use std::io::Read;
 use std::marker::Model;
 
-/// A node that takes records, and keeps its output records until they are read. Contracts see the unread bytes and the
-/// node, which is `None` once memory for its output was refused.
+/// A node that takes records, and keeps its output records until they are read.
+///
+/// Contracts see the unread bytes and the node, which is `None` once an allocation for its output has failed.
+///
 /// Rules: Nodes that records drive 1
 /// Formats: A library for C
 #[derive(Drop)]
@@ -36,8 +38,12 @@ impl<O: Object> Model for BufferedNode<O> {
 }
 
 impl<O: Object> BufferedNode<O> {
-    /// Creates the node of processor `me` of the group `fixed`, at its opening, with the default periods and no unread bytes.
-    /// Errors, in this order: `NotMember` unless `me` is 1 to N; `Memory`.
+    /// Creates the node of processor `me` of the group `fixed`, at its opening, with the default periods.
+    ///
+    /// No bytes are unread.
+    ///
+    /// Errors, in this order: `NotMember` unless `me` is 1 to N; `Memory` if an allocation fails.
+    ///
     /// Rules: Nodes that records drive 1 and 7
     pub fn new(alloc: O::Alloc, fixed: Fixed, me: u8) -> Result<BufferedNode<O>, Fault>
         ensures ok { IfOk result (λ buffered_node. buffered_node ≡ record { node = Some (record_node_opening fixed me default_periods); unread = [] }) }
@@ -46,8 +52,12 @@ impl<O: Object> BufferedNode<O> {
         BufferedNode::with_periods(alloc, fixed, me, Periods::default())
     }
 
-    /// Creates the node of processor `me` of the group `fixed`, at its opening, with these periods and no unread bytes.
-    /// Errors, in this order: `NotMember` unless `me` is 1 to N; `Memory`.
+    /// Creates the node of processor `me` of the group `fixed`, at its opening, with these periods of its timeouts.
+    ///
+    /// No bytes are unread. The periods count only once a record brings the time.
+    ///
+    /// Errors, in this order: `NotMember` unless `me` is 1 to N; `Memory` if an allocation fails.
+    ///
     /// Rules: Nodes that records drive 1 and 7
     pub fn with_periods(
         alloc: O::Alloc,
@@ -65,14 +75,16 @@ impl<O: Object> BufferedNode<O> {
         })
     }
 
-    /// Takes the record of this kind and these bytes: carries out its request, and appends the node's output to the unread
-    /// bytes. What the node itself refuses is reported in this output and isn't an error.
+    /// Takes the record of this kind and these bytes: carries out its request, and appends the node's output to the
+    /// unread bytes.
+    ///
+    /// What the node itself refuses is reported in this output and isn't an error.
     ///
     /// Errors:
-    /// - `Stopped` where an earlier `Memory` ended the node: nothing is done;
-    /// - `BadFrame` where the record isn't a request: nothing is done;
-    /// - `Memory` where memory for the output is refused. The node and the unread bytes are dropped, and the node is gone
-    ///   for good.
+    /// - `Stopped` if an earlier `Memory` ended the node; nothing is done.
+    /// - `BadFrame` if the record isn't a request; nothing is done.
+    /// - `Memory` if an allocation for the output fails. The node and the unread bytes are then dropped, and every
+    ///   later record is refused with `Stopped`.
     ///
     /// Rules: Nodes that records drive 1 to 4
     pub fn take(&mut self, kind: u8, bytes: &[u8]) -> Result<(), Fault>
@@ -93,8 +105,11 @@ impl<O: Object> BufferedNode<O> {
         }
     }
 
-    /// Moves the first unread bytes to the front of `into` and returns their number. It is 0 only where none are unread or
-    /// `into` is empty. Bytes may stay unread although `into` has room for more.
+    /// Moves the first unread bytes to the front of `into`, and returns their number.
+    ///
+    /// It is 0 only if no bytes are unread or `into` is empty. Bytes may stay unread although `into` has room for more,
+    /// so read until it is 0. The rest of `into` is unspecified. Does not allocate.
+    ///
     /// Formats: A library for C
     pub fn read(&mut self, into: &mut [u8]) -> usize
         ensures room { result ≤ length into.new }

@@ -1,4 +1,5 @@
 //! The outputs of a step, with its frames already encoded.
+//!
 //! Rules: Nodes that records drive 3 and 4
 
 ghost use Rattle.std.specs.Prelude.{◌≡◌, [], ◌++◌, OnOk, IfErr};
@@ -49,8 +50,8 @@ pub(crate) fn encode_sends<A: Allocator + Copy + Drop>(
     Ok(())
 }
 
-/// Writes the records of a step's outputs: its frames, its answers, the number of places that it restored, and the newly
-/// committed calls. The record that ends the output isn't among them.
+/// Writes the records of a step's outputs: its frames, its answers, the number of places that it restored, and the
+/// newly committed calls. The record that ends the output isn't among them.
 /// Errors: those of `out`, to which an unspecified part of the records is then written.
 /// Rules: Nodes that records drive 3
 /// Formats: Records

@@ -1,4 +1,5 @@
-//! A node whose steps give encoded frames.
+//! A node whose steps return encoded frames.
+//!
 //! Rules: Nodes that records drive 2 to 4; Refusals 4 and 6
 
 ghost use Rattle.std.specs.Prelude.{◌≡◌, false, if◌then◌else◌, None, Some, OnOk, OnErr, IfOk, IfErr};
@@ -59,8 +60,8 @@ impl<O: Object> EncodingNode<O> {
         Ok(EncodingNode { alloc, node })
     }
 
-    /// Makes a step and encodes its frames. `Stopped` in a stopped node, else `Memory`: then the node has stopped, and the
-    /// step's outputs are lost.
+    /// Makes a step and encodes its frames. `Stopped` in a stopped node, else `Memory`: then the node has stopped, and
+    /// the step's outputs are lost.
     pub(crate) fn step(&mut self, input: Input<O::Alloc>) -> Result<EncodedStep<O::Alloc>, Fault>
         requires { InputFits input }
         ensures acts { OnOk result (IsStepOrRefusal O.sequential self.old input None self.new) }
@@ -103,8 +104,8 @@ impl<O: Object> EncodingNode<O> {
         ensures err { OnErr result (self.new ≡ node_stopped self.old) }
         ensures refused { IfErr result (λ fault. fault ≡ (if is_stopped self.old.core.state then Stopped else Memory)) }
     {
-        // A law: no effect at run time. The proof takes from it that a node keeps the limits along a step, and that its frames
-        // keep them.
+        // A law: no effect at run time. The proof takes from it that a node keeps the limits along a step, and that its
+        // frames keep them.
         node_fits_law::<O>();
         let outs = self.node.step(input)?;
         Ok(outs)

@@ -1,4 +1,5 @@
-//! The input that bytes are to a node.
+//! The input that received bytes are to a node: the frame that they encode, or noise.
+//!
 //! Rules: Nodes that records drive 2
 
 ghost use Rattle.std.specs.Prelude.{IfSome};

@@ -1,4 +1,5 @@
-//! The reported outcome of a token agrees with the rules of the ring core.
+//! The law that the reported outcome of a token agrees with the rules of the ring core.
+//!
 //! Rules: Nodes that records drive 3
 
 ghost use Rattle.std.specs.Prelude.{◌≡◌, true, false};
@@ -12,10 +13,11 @@ ghost use Rattle.ring_clock.specs.StepOutcomes.{has_sent_frame, is_token_or_comm
 
 use ring_object::Object;
 
-/// States when a step on a token or a commit token sends something, for every object, node and such frame. Where the ring
-/// core ignores the frame, the step sends nothing. Where the core doesn't ignore it, the step sends at least one frame,
-/// unless the node has stopped after the step. So the reported outcome of a token is the core's.
-/// It has no effect at run time.
+/// States when a step on a token or a commit token sends something, for every object, every node and every such frame.
+///
+/// If the ring core ignores the frame, the step sends nothing. Otherwise it sends at least one frame, unless the node
+/// has stopped after the step. So the reported outcome of a token is the core's. It has no effect at run time.
+///
 /// Rules: Nodes that records drive 3
 pub fn token_law<O: Object>()
     ensures ignored { (n : Node O.Alloc) (frame : Frame O.Alloc) → is_token_or_commit_token (FrameInput frame) ≡ true → decide n.core (CoreFrame frame) ≡ Ignore

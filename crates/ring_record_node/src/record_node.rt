@@ -39,7 +39,7 @@ use std::marker::Model;
 
 /// A node that takes records, and writes the output records of each at once.
 ///
-/// It keeps a clock from the first record of time on, and counts its steps.
+/// It keeps a clock from the first record of time on, and counts its steps, its calls and their refusals.
 ///
 /// Rules: Nodes that records drive 1, 7 and 8
 #[derive(Drop)]
@@ -60,7 +60,11 @@ impl<O: Object> Model for RecordNode<O> {
 
 impl<O: Object> RecordNode<O> {
     /// Creates the node of processor `me` of the group `fixed`, at its opening, with the default periods.
-    /// Errors, in this order: `NotMember` unless `me` is 1 to N; `Memory`.
+    ///
+    /// It has no time yet, and all its counts are 0.
+    ///
+    /// Errors, in this order: `NotMember` unless `me` is 1 to N; `Memory` if an allocation fails.
+    ///
     /// Rules: Nodes that records drive 1 and 7
     pub fn new(alloc: O::Alloc, fixed: Fixed, me: u8) -> Result<RecordNode<O>, Fault>
         ensures ok { IfOk result (λ record_node. record_node ≡ record_node_opening fixed me default_periods) }
@@ -70,8 +74,12 @@ impl<O: Object> RecordNode<O> {
         RecordNode::with_periods(alloc, fixed, me, Periods::default())
     }
 
-    /// Creates the node of processor `me` of the group `fixed`, at its opening, with these periods.
-    /// Errors, in this order: `NotMember` unless `me` is 1 to N; `Memory`.
+    /// Creates the node of processor `me` of the group `fixed`, at its opening, with these periods of its timeouts.
+    ///
+    /// It has no time yet, and all its counts are 0. The periods count only once a record brings the time.
+    ///
+    /// Errors, in this order: `NotMember` unless `me` is 1 to N; `Memory` if an allocation fails.
+    ///
     /// Rules: Nodes that records drive 1 and 7
     pub fn with_periods(
         alloc: O::Alloc,
@@ -94,9 +102,10 @@ impl<O: Object> RecordNode<O> {
 
     /// Takes the record of this kind and these bytes: carries out its request, and writes the node's output to `out`.
     ///
-    /// What the node itself refuses, `Memory` included, is written there and isn't an error.
-    ///
     /// Returns whether the record is a request. If it isn't, nothing is done and nothing is written.
+    ///
+    /// What the node itself refuses is written to `out` and isn't an error. If an allocation fails in a step, the node
+    /// has stopped for good, and `Memory` is written instead of the step's outputs. `out` isn't flushed.
     ///
     /// Errors: `Output` if `out` fails. The request is carried out all the same, and a part of the output may be
     /// missing.
@@ -238,8 +247,8 @@ impl<O: Object> RecordNode<O> {
         }
     }
 
-    /// Brings a time: makes a step on each timeout that is due at it, in order, and writes the outputs of all and the end. Where
-    /// the output fails, the remaining steps are made nevertheless.
+    /// Brings a time: makes a step on each timeout that is due at it, in order, and writes the outputs of all and the
+    /// end. Where the output fails, the remaining steps are made nevertheless.
     fn bring_time<W: Write>(&mut self, now: u64, out: &mut W) -> io::Result<()>
         ensures { HasWrittenUnlessFailed result (W.contents out.old) (W.contents out.new) (IsTimeBrought O.sequential now self.old self.new) }
     {
@@ -434,8 +443,8 @@ impl<O: Object> RecordNode<O> {
         }
     }
 
-    /// Returns whether a step gave one frame at most and nothing else, and left the node with its ring installed and all of its log
-    /// committed.
+    /// Returns whether a step gave one frame at most and nothing else, and left the node with its ring installed and
+    /// all of its log committed.
     fn is_idle(&self, encoded: &EncodedStep<O::Alloc>) -> bool
         ensures { result ≡ is_idle self.now.node encoded.now.outs.sends.items encoded.now.outs.answers.items encoded.now.outs.restored
             encoded.now.outs.committed.items encoded.now.has_installed }

@@ -1,4 +1,5 @@
 //! A node that takes the records of an input one after another, and writes its output records.
+//!
 //! Rules: Nodes that records drive 5
 //! Formats: Records
 
@@ -17,22 +18,24 @@ use ring_records::{MAX_RECORD_BYTES, read_record};
 use std::alloc::Allocator;
 use std::io::{self, ErrorKind, Read, Write};
 
-/// Runs processor `me` of the group `fixed` from its opening, with the default periods. Takes the records of the input one after another, and writes
-/// all output of each to `out`, flushed, before it reads the next. Returns the exit status: 0 at the end of the input, else
-/// 1.
+/// Runs processor `me` of the group `fixed` from its opening, with the default periods.
+///
+/// Takes the records of `input` one after another, and writes the whole output of each to `out` and flushes it before
+/// reading the next. Returns the exit status: 0 at the end of the input, otherwise 1. Waits for `input` and `out`.
 ///
 /// Errors, each reported on `err` unless stated otherwise:
-/// - `NotMember` where `me` isn't 1 to N. Nothing else is done.
-/// - `BadFrame` where a record isn't a request, or the input ends or fails within a record. No more than that record is
-///   taken off the input.
-/// - `Memory` where memory is refused at the start, for a record or for its output. No more than that record is taken off
-///   the input.
+/// - `NotMember` if `me` isn't 1 to N; nothing else is done.
+/// - `BadFrame` if a record isn't a request, or if the input ends or fails within a record. No more than that record
+///   has been read from the input.
+/// - `Memory` if an allocation fails at the start, for a record, or for its output. No more than that record has been
+///   read from the input.
 /// - `out` fails: nothing is reported. The record's request is carried out, and a prefix of its output is on `out`.
-/// - 2^64 - 1 records were taken: nothing is reported.
+/// - 2^64 - 1 records have been taken: nothing is reported.
 ///
-/// Except with `NotMember`, the requests of all records before are carried out, and their output is on `out`. At most that
-/// prefix follows. Contracts don't cover that memory was refused or that `out` failed. Where less than a record was taken,
-/// they don't cover that the input ended or failed there: no contract says when these fail.
+/// Except with `NotMember`, the requests of all earlier records have been carried out, and their output is on `out`,
+/// followed by at most that prefix. No contract says when an allocation, `input` or `out` fails. So it isn't proved
+/// that memory was in fact refused, that `out` did fail, or, where less than a record was read, that the input ended or
+/// failed.
 ///
 /// Rules: Nodes that records drive 5
 pub fn serve<O: Object, R: Read, W: Write, E: Write>(
@@ -53,10 +56,12 @@ pub fn serve<O: Object, R: Read, W: Write, E: Write>(
     serve_with_periods::<O, R, W, E>(alloc, fixed, me, Periods::default(), input, out, err)
 }
 
-/// Runs processor `me` of the group `fixed` as [`serve`] does, with these periods of its timeouts, which count only if records
-/// bring the time.
+/// Runs processor `me` of the group `fixed` as [`serve`] does, with these periods of its timeouts.
 ///
-/// Errors: as in [`serve`].
+/// The periods count only once a record brings the time.
+///
+/// Errors: as for [`serve`].
+///
 /// Rules: Nodes that records drive 5 and 7
 pub fn serve_with_periods<O: Object, R: Read, W: Write, E: Write>(
     alloc: O::Alloc,
@@ -80,8 +85,8 @@ pub fn serve_with_periods<O: Object, R: Read, W: Write, E: Write>(
     }
 }
 
-/// Takes the records of the input, and writes the node's output. `Refused` with `NotMember`, before anything else, or with
-/// `Memory`; `BadFrame` at the first byte of a faulty record; `Output`.
+/// Takes the records of the input, and writes the node's output. `Refused` with `NotMember`, before anything else, or
+/// with `Memory`; `BadFrame` at the first byte of a faulty record; `Output`.
 fn serve_all<O: Object, R: Read, W: Write>(
     alloc: O::Alloc,
     fixed: Fixed,
@@ -106,7 +111,8 @@ fn serve_all<O: Object, R: Read, W: Write>(
     served
 }
 
-/// Has the borrowed node take the records of the input until none is left, and writes its output. Fails as `serve_all` does.
+/// Has the borrowed node take the records of the input until none is left, and writes its output. Fails as `serve_all`
+/// does.
 fn serve_records<O: Object, R: Read, W: Write>(
     node: &mut RecordNode<O>,
     input: &mut R,
@@ -136,8 +142,9 @@ fn room_for_bytes<A: Allocator + Copy>(alloc: A) -> Result<Vec<u8, A>, Fault>
     Ok(Vec::with_capacity(alloc, MAX_RECORD_BYTES)?)
 }
 
-/// Takes the next record of the input, whose first byte has index `at`, and writes out the node's output. Returns the index of
-/// the first byte after it: `None` where no record is left. The whole output is built in `told` before any of it is written.
+/// Takes the next record of the input, whose first byte has index `at`, and writes out the node's output. Returns the
+/// index of the first byte after it: `None` where no record is left. The whole output is built in `told` before any of
+/// it is written.
 ///
 /// Errors:
 /// - `Refused` with `Memory`, or `BadFrame` at this index where the record is faulty: nothing is written.
@@ -188,8 +195,8 @@ fn write_out<W: Write>(bytes: &[u8], out: &mut W) -> io::Result<()>
     out.flush()
 }
 
-/// Writes a prefix of the bytes and returns its length: 0 only where there are none or `out` fails. It repeats an interrupted
-/// write.
+/// Writes a prefix of the bytes and returns its length: 0 only where there are none or `out` fails. It repeats an
+/// interrupted write.
 fn write_some<W: Write>(bytes: &[u8], out: &mut W) -> usize
     ensures bound { result ≤ length bytes.now }
     ensures front { Appends (W.contents out.old) (W.contents out.new) (take result bytes.now) }

@@ -282,7 +282,7 @@ fn parse_line_unless_skipped<V: Vocabulary, A: Allocator + Copy>(
     }
 }
 
-/// Returns whether a line is skipped and so isn't effective: it is empty, or its first byte is `#`.
+/// Returns whether a line is skipped, and so not effective: whether it is empty or its first byte is `#`.
 ///
 /// Formats: Scripts
 pub fn is_skipped(line: &[u8]) -> bool

@@ -38,9 +38,10 @@ impl<'a> Model for Words<'a> {
 }
 
 impl<'a> Words<'a> {
-    /// Returns the words of the text, split at the byte `separator`, which must not be a digit.
+    /// Returns the words of the text: the parts between the bytes `separator`, which must not be a digit.
     ///
-    /// An empty text has one word, which is empty.
+    /// A part may be empty: before a separator at the start, between two in a row, or after one at the end. An empty
+    /// text has one word, which is empty.
     ///
     /// Formats: Scripts
     pub fn new(text: &'a [u8], separator: u8) -> Words<'a>

@@ -19,6 +19,8 @@ pub(crate) struct RandomDraws {
 
 impl RandomDraws {
     /// Creates the sequence for `seed`, at its first draw.
+    ///
+    /// The same seed gives the same draws. Does not allocate.
     pub fn new(seed: u64) -> RandomDraws {
         RandomDraws {
             rng: Pcg32::seed_from_u64(seed),
@@ -27,7 +29,7 @@ impl RandomDraws {
 
     /// Draws a number from 0 up to, but not including, `many`, which must be at least 1.
     ///
-    /// All of them are about equally likely.
+    /// All results are about equally likely.
     pub fn draw_below(&mut self, many: u32) -> u32
         requires { 1 ≤ many }
         ensures { result < many }
@@ -37,7 +39,7 @@ impl RandomDraws {
 
     /// Draws a number from `least` to `most`, both included.
     ///
-    /// `least` must be at most `most`. All of them are about equally likely.
+    /// `least` must be at most `most`. All results are about equally likely.
     pub fn draw_between(&mut self, least: u32, most: u32) -> u32
         requires { least ≤ most }
         ensures least { least ≤ result }
@@ -53,7 +55,7 @@ impl RandomDraws {
 
     /// Draws a member of the set.
     ///
-    /// All of them are about equally likely. If the set is empty, returns `None` and draws nothing.
+    /// All members are about equally likely. If the set is empty, returns `None` and draws nothing.
     pub fn draw_member(&mut self, set: ProcSet) -> Option<Proc> {
         let many = set.len();
         if many == 0 {

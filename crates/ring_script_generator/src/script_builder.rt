@@ -79,22 +79,24 @@ impl<V: Vocabulary, A: Allocator> ScriptBuilder<V, A> {
 
     /// Reserves the lines that the end takes: two for each node that has not stopped, and five more.
     ///
-    /// It replaces an earlier reservation.
+    /// It replaces an earlier reservation. If fewer lines are left, no unreserved line is left.
     pub fn reserve_end(&mut self) {
         self.lines_reserved = self.live.len().saturating_mul(2).saturating_add(5);
     }
 
     /// Releases the lines that are reserved for the end, so that the end may use them.
+    ///
+    /// All lines that are left are then unreserved.
     pub fn release_reserve(&mut self) {
         self.lines_reserved = 0;
     }
 
-    /// Returns the number of lines still to come before `show`, the reserved ones included.
+    /// Returns the number of lines that are left before `show`, including the reserved ones.
     pub fn lines(&self) -> u32 {
         self.lines_left
     }
 
-    /// Returns the number of lines still to come that aren't reserved for the end, 0 if all are.
+    /// Returns the number of lines that are left and aren't reserved for the end.
     pub fn unreserved_lines_left(&self) -> u32 {
         self.lines_left.saturating_sub(self.lines_reserved)
     }
@@ -104,9 +106,9 @@ impl<V: Vocabulary, A: Allocator> ScriptBuilder<V, A> {
         self.text
     }
 
-    /// Appends a comment on the next lines.
+    /// Appends a comment that says what the next lines are for.
     ///
-    /// Without an unreserved line to come, nothing is appended.
+    /// It isn't one of the counted lines. If no unreserved line is left, nothing is appended.
     ///
     /// Errors: `Memory` if an allocation fails; a part of the comment may then have been appended.
     ///
@@ -118,11 +120,11 @@ impl<V: Vocabulary, A: Allocator> ScriptBuilder<V, A> {
         Ok(())
     }
 
-    /// Appends a line with this request, and uses one of the lines to come.
+    /// Appends a line with this request, and uses up one of the lines that are left.
     ///
-    /// Without an unreserved one, nothing is appended.
+    /// If no unreserved line is left, nothing is appended.
     ///
-    /// Errors: `Memory` if an allocation fails; a part of the line may then have been appended.
+    /// Errors: `Memory` if an allocation fails; the line is then used up, and a part of it may have been appended.
     ///
     /// Formats: Scripts
     pub fn add_step(&mut self, step: GeneratedLine) -> Result<(), Fault> {
@@ -154,17 +156,21 @@ impl<V: Vocabulary, A: Allocator> ScriptBuilder<V, A> {
 
     /// Appends a timeout of this kind at the node, as [`add_step`](ScriptBuilder::add_step) does.
     ///
-    /// Errors: `Memory` if an allocation fails; a part of the text may then have been appended.
+    /// It uses up one of the lines that are left. If no unreserved line is left, nothing is appended.
+    ///
+    /// Errors: as for [`add_step`](ScriptBuilder::add_step).
     ///
     /// Formats: Scripts
     pub fn time_out(&mut self, node: Proc, kind: Kind) -> Result<(), Fault> {
         self.add_step(GeneratedLine::Timeout { node, kind })
     }
 
-    /// Appends a timeout of this kind at each of these nodes, in the order of their numbers, as
-    /// [`add_step`](ScriptBuilder::add_step) does.
+    /// Appends a timeout of this kind at each of these nodes, in ascending order.
     ///
-    /// Errors: `Memory` if an allocation fails; a part of the text may then have been appended.
+    /// Each uses up one of the lines that are left. Once no unreserved line is left, the remaining nodes get none.
+    ///
+    /// Errors: `Memory` if an allocation fails; some of the lines, and a part of the next one, may then have been
+    /// appended.
     ///
     /// Formats: Scripts
     pub fn time_out_all(&mut self, nodes: ProcSet, kind: Kind) -> Result<(), Fault> {
@@ -176,7 +182,10 @@ impl<V: Vocabulary, A: Allocator> ScriptBuilder<V, A> {
 
     /// Appends a pump whose number of turns is drawn from `turns` / 2 + 1 to `turns` more than that, both included.
     ///
-    /// Errors: `Memory` if an allocation fails; a part of the text may then have been appended.
+    /// It uses up one of the lines that are left. If no unreserved line is left, nothing is appended, but the number is
+    /// still drawn.
+    ///
+    /// Errors: as for [`add_step`](ScriptBuilder::add_step).
     ///
     /// Formats: Scripts
     pub fn pump_about(&mut self, turns: u32) -> Result<(), Fault> {
@@ -185,29 +194,32 @@ impl<V: Vocabulary, A: Allocator> ScriptBuilder<V, A> {
         self.add_step(GeneratedLine::Pump { turns })
     }
 
-    /// Appends a pump that is usually long enough for a ring to form: of about 8 turns for each pair of nodes and 40
-    /// more, as [`pump_about`](ScriptBuilder::pump_about) draws them.
+    /// Appends a pump that is usually long enough for a ring to form, as [`pump_about`](ScriptBuilder::pump_about) does
+    /// with 8 turns for each ordered pair of nodes and 40 more.
     ///
     /// While a ring forms, joins go to all nodes, and all answer them.
     ///
-    /// Errors: `Memory` if an allocation fails; a part of the text may then have been appended.
+    /// Errors: as for [`add_step`](ScriptBuilder::add_step).
     ///
     /// Formats: Scripts
     pub fn pump_long(&mut self) -> Result<(), Fault> {
         self.pump_about(self.node_pair_count().saturating_mul(8).saturating_add(40))
     }
 
-    /// Returns the number of ordered pairs of nodes, each node with itself included: N * N, stopped nodes counted.
+    /// Returns the number of ordered pairs of nodes, including those of a node with itself: N * N.
+    ///
+    /// Stopped nodes are counted.
     pub fn node_pair_count(&self) -> u32 {
         let count = u32::from(self.nodes.count());
         count.saturating_mul(count)
     }
 
-    /// Cuts the nodes into these sides, and appends the line `cut`.
+    /// Cuts the nodes into these sides, and appends the line `cut` as [`add_step`](ScriptBuilder::add_step) does.
     ///
-    /// At least two of the sides must have nodes.
+    /// At least two of the sides must have nodes; this isn't checked. If no unreserved line is left, nothing is
+    /// appended, but the nodes are still cut.
     ///
-    /// Errors: `Memory` if an allocation fails; a part of the text may then have been appended.
+    /// Errors: `Memory` if an allocation fails; the nodes are cut, and a part of the line may have been appended.
     ///
     /// Formats: Scripts
     pub fn set_sides(&mut self, sides: CutSides) -> Result<(), Fault> {
@@ -216,9 +228,10 @@ impl<V: Vocabulary, A: Allocator> ScriptBuilder<V, A> {
         self.add_step(GeneratedLine::Cut(cut))
     }
 
-    /// Removes the cut, if there is one, and appends the line `heal` as `add_step` does.
+    /// Removes the cut, if there is one, and appends the line `heal` as [`add_step`](ScriptBuilder::add_step) does.
     ///
-    /// If only reserved lines are left, nothing is appended, but the cut is still removed.
+    /// The line is appended even if there was no cut. If no unreserved line is left, nothing is appended, but the cut
+    /// is still removed.
     ///
     /// Errors: `Memory` if an allocation fails; the cut is removed, and a part of the line may have been appended.
     ///
@@ -228,11 +241,12 @@ impl<V: Vocabulary, A: Allocator> ScriptBuilder<V, A> {
         self.add_step(GeneratedLine::Heal)
     }
 
-    /// Appends a pump of 16 turns for each ordered pair of nodes, and 80 more.
+    /// Appends a pump of 16 turns for each ordered pair of nodes, and 80 more, as [`add_step`](ScriptBuilder::add_step)
+    /// does.
     ///
-    /// That is usually enough for all sent frames to arrive and for rings to form; nothing checks it.
+    /// That is usually enough for all sent frames to arrive and for rings to form; this isn't checked.
     ///
-    /// Errors: `Memory` if an allocation fails; a part of the text may then have been appended.
+    /// Errors: as for [`add_step`](ScriptBuilder::add_step).
     ///
     /// Formats: Scripts
     pub fn pump_all(&mut self) -> Result<(), Fault> {
@@ -243,9 +257,10 @@ impl<V: Vocabulary, A: Allocator> ScriptBuilder<V, A> {
     /// Appends the next call of one of the four clients, at the client's node, with a drawn operation.
     ///
     /// The client is replaced by a new one, at any node that has not stopped, if it has not called yet or its node has
-    /// stopped, and in 4 of 100 other cases.
+    /// stopped, and in 4 of 100 other cases. The call uses up one of the lines that are left. If no unreserved line is
+    /// left, nothing is appended, but the client counts the call.
     ///
-    /// Errors: `Memory` if an allocation fails; a part of the text may then have been appended.
+    /// Errors: as for [`add_step`](ScriptBuilder::add_step); the client counts the call.
     ///
     /// Formats: Scripts
     pub fn call(&mut self) -> Result<(), Fault> {
@@ -303,7 +318,8 @@ impl<V: Vocabulary, A: Allocator> ScriptBuilder<V, A> {
 
     /// Appends the last call of one of the four clients again, at any node that has not stopped, with a comment.
     ///
-    /// If the client has not called yet, nothing is appended.
+    /// It uses up one of the lines that are left. If the client has not called yet, or if no unreserved line is left,
+    /// nothing is appended.
     ///
     /// Errors: `Memory` if an allocation fails; a part of the text may then have been appended.
     ///

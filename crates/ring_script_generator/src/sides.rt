@@ -18,7 +18,7 @@ pub(crate) struct CutSides {
 const TWO_SIDES: u32 = 75;
 
 impl CutSides {
-    /// Returns the sides without a cut: all of `nodes` on the first side.
+    /// Returns the sides without a cut: all of `nodes` on the first side, the others empty.
     pub fn joined(nodes: ProcSet) -> CutSides {
         CutSides {
             first: nodes,
@@ -28,6 +28,8 @@ impl CutSides {
     }
 
     /// Returns the sides with only `node` on the first, and all other nodes of `nodes` on the second.
+    ///
+    /// The third side is empty. Whether `nodes` has `node` isn't checked.
     pub fn isolation(nodes: ProcSet, node: Proc) -> CutSides {
         let own = ProcSet::singleton(node);
         CutSides {
@@ -37,9 +39,10 @@ impl CutSides {
         }
     }
 
-    /// Draws a side for each of these nodes: one of two sides in 75 of 100 cases, otherwise one of three.
+    /// Draws the number of sides, two in 75 of 100 cases and otherwise three, and then a side for each of these nodes.
     ///
-    /// All nodes may get the same side, so it may be no cut.
+    /// All nodes may get the same side, so the result may not be a cut. A side is drawn for each of the 16 possible
+    /// processors, so the number of draws doesn't depend on `nodes`.
     pub fn draw(draws: &mut RandomDraws, nodes: ProcSet) -> CutSides {
         let many = if draws.draw_bool(TWO_SIDES) { 2 } else { 3 };
         let mut drawn = CutSides::joined(ProcSet::new());

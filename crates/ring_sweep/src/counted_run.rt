@@ -79,6 +79,8 @@ impl<O: Object> CountedRun<O> {
 
     /// Carries out the requests of the lines in order, and counts their events.
     ///
+    /// Each call in them must be within the limits of a call, as in every parsed script.
+    ///
     /// Errors: `Memory` if an allocation fails; the run is then unspecified.
     ///
     /// Formats: The command line
@@ -95,7 +97,8 @@ impl<O: Object> CountedRun<O> {
 
     /// Carries out the request of a line, and counts its events.
     ///
-    /// The first `taken` turns of a pump are left out; for other lines `taken` is ignored.
+    /// The first `taken` turns of a pump are left out; if it has fewer, nothing is done. For other lines `taken` is
+    /// ignored. A call must be within the limits of a call, as in every parsed script.
     ///
     /// Errors: `Memory` if an allocation fails; the run is then unspecified.
     ///
@@ -116,6 +119,9 @@ impl<O: Object> CountedRun<O> {
     ///
     /// Returns the number of the line's turns before that event, or `None` if the event isn't in this line and the
     /// whole line is done.
+    ///
+    /// `taken` must be at most the number of turns of a pump, and 0 for other lines. A call must be within the limits
+    /// of a call, as in every parsed script.
     ///
     /// Errors: `Memory` if an allocation fails; the run is then unspecified.
     ///

@@ -59,7 +59,8 @@ pub struct SweepResult {
 ///
 /// - A variant isn't legal: `legal no` is printed, and the first such variant is reported on `err`.
 /// - `BadScript` if the input isn't a script: reported on `err`, and nothing is printed.
-/// - `Memory` if an allocation for the reading or for a run itself fails: reported on `err`, and nothing is printed.
+/// - `Memory` if an allocation for the reading or for a run itself fails, or if there were 2^64 variants or more:
+///   reported on `err`, and nothing is printed.
 /// - `out` fails: nothing is reported.
 ///
 /// So if both `out` and `err` change, the text of the sweep is on `out`, with `legal no`.
@@ -136,12 +137,13 @@ fn sweep_script<T: Object, O: Write, E: Write>(
 
 /// Sweeps a script as [`sweep`] does, on `threads` threads, or one if that is 0.
 ///
-/// Neither output depends on that number. If there is a `progress`, it gets the progress from the first second on, and
-/// at the end the sequence that clears it from a terminal. Returns the exit status: 0 if all variants are legal,
-/// otherwise 1.
+/// Neither output depends on that number. Waits for the threads. If there is a `progress`, it gets the progress from
+/// the first second on, and at the end the sequence that clears it from a terminal. Returns the exit status: 0 if all
+/// variants are legal, otherwise 1.
 ///
 /// Errors: as for [`sweep`]. Errors of `progress` are ignored.
 ///
+/// Rules: Sessions 10 and 11
 /// Formats: The command line
 pub fn sweep_by_threads<R: Threads + Clock + Sync, I: Read, O: Write, E: Write, P: Write>(
     rt: &R,
@@ -174,6 +176,7 @@ pub fn sweep_by_threads<R: Threads + Clock + Sync, I: Read, O: Write, E: Write, 
 ///
 /// Errors: as for [`sweep_by_threads`].
 ///
+/// Rules: Sessions 10 and 11
 /// Formats: The command line
 pub fn sweep_of_by_threads<
     T: Object<Alloc = Global> + Send,

@@ -68,9 +68,7 @@ pub fn print_variant<A: Allocator + Copy + Drop, O: Write, E: Write>(
 
 /// Prints the script of a variant as [`print_variant`] does, for objects `T` with the vocabulary `V`.
 ///
-/// Returns the exit status, 0 to 2.
-///
-/// Errors: as for [`print_variant`].
+/// Returns the exit status: 0, 1 or 2, as [`print_variant`] does.
 ///
 /// Formats: The command line
 pub fn print_variant_of<T: Object, V: Vocabulary, O: Write, E: Write>(

@@ -62,13 +62,15 @@ impl<A: Allocator + Copy> SentFrames<A> {
         self.frames.len() as u64
     }
 
-    /// Returns frame `number`, or `None` if there is none.
+    /// Returns frame `number`, counted from 1, or `None` if there is none.
     pub fn frame(&self, number: u64) -> Option<SentFrame> {
         let before = number.checked_sub(1)?;
         self.frames.get(before as usize).copied()
     }
 
-    /// Returns the frames with numbers above `before`.
+    /// Returns the frames with numbers above `before`, oldest first.
+    ///
+    /// Returns the empty slice if there is none.
     pub fn since(&self, before: u64) -> &[SentFrame] {
         self.frames.get(before as usize..).unwrap_or(&[])
     }
@@ -105,7 +107,9 @@ impl<A: Allocator + Copy> SentFrames<A> {
         has_message
     }
 
-    /// Records that the node receives frame `number`.
+    /// Records that the node receives frame `number`, counted from 1.
+    ///
+    /// If no such frame was sent, nothing changes. `number` must not be 0. Does not allocate.
     ///
     /// Formats: The command line
     pub fn note_receipt(&mut self, number: u64, node: Proc) {

@@ -67,7 +67,7 @@ pub fn trace<O: Write, F: Write, E: Write>(
 
 /// Traces a script as [`trace`] does, for objects `T` with the vocabulary `V` for operations and replies.
 ///
-/// Returns the exit status: 0 or 1.
+/// Returns the exit status: 0 if all was done, otherwise 1.
 ///
 /// Errors: as for [`trace`].
 ///

@@ -37,7 +37,7 @@ pub enum TraceFormat {
 }
 
 impl TraceFormat {
-    /// Returns whether the format has lines for programs, with the details of events: `Json` and `Html`.
+    /// Returns whether the format is machine-readable, with the details of events: `Json` and `Html`.
     ///
     /// Formats: The command line
     pub fn has_details(self) -> bool {
@@ -74,8 +74,10 @@ impl TracePrinter {
         }
     }
 
-    /// Prints what comes before all other lines: for JSON the line of the nodes, and for a page also the page's first
-    /// part.
+    /// Prints what comes before all other lines: for `Json` and `Html` the line of the nodes, and for `Html` the page's
+    /// first part before it.
+    ///
+    /// For `Text` nothing is printed.
     ///
     /// Errors: as for [`print_event`](TracePrinter::print_event).
     ///
@@ -97,10 +99,10 @@ impl TracePrinter {
     /// Prints the line of an event: its description, its changes to the node, and the node's reports, in the words of
     /// the object.
     ///
-    /// The formats for programs also have its details.
+    /// `Json` and `Html` also have its details.
     ///
-    /// Errors: `Output` if `out` fails; for JSON also `Refused` with `Memory` if an allocation fails. How much has been
-    /// written is then unspecified.
+    /// Errors: `Output` if `out` fails; for `Json` and `Html` also `Refused` with `Memory` if an allocation fails. How
+    /// much has been written is then unspecified.
     ///
     /// Formats: The command line
     pub fn print_event<A: Allocator + Copy, W: Write>(
@@ -133,7 +135,7 @@ impl TracePrinter {
 
     /// Prints the line of a fold: events in which frames were delivered and nothing changed.
     ///
-    /// The formats for programs also have its turns.
+    /// `Json` and `Html` also have its turns.
     ///
     /// Errors: as for [`print_event`](TracePrinter::print_event).
     ///
@@ -202,7 +204,7 @@ impl TracePrinter {
         }
     }
 
-    /// Prints the line of a node's counts over the whole run.
+    /// Prints the line with a node's counts over the whole run and its gauges at the end of the run.
     ///
     /// Errors: as for [`print_event`](TracePrinter::print_event).
     ///
@@ -243,9 +245,10 @@ impl TracePrinter {
         }
     }
 
-    /// Prints the line of a committed place of the log, counted from 0, with its call and the answer to it.
+    /// Prints the line of a committed place: `place`, counted from 0, its call, and the answer that the sessions give
+    /// to the call at this place.
     ///
-    /// Only the formats for programs have such lines.
+    /// Only `Json` and `Html` have such lines. For the other formats nothing is printed.
     ///
     /// Errors: as for [`print_event`](TracePrinter::print_event).
     ///
@@ -271,7 +274,7 @@ impl TracePrinter {
 
     /// Prints the part of a page between its lines and its picture.
     ///
-    /// Other formats have no such part.
+    /// Only `Html` has such a part. For the other formats nothing is printed.
     ///
     /// Errors: `Output` if `out` fails. How much has been written is then unspecified.
     ///
@@ -288,7 +291,7 @@ impl TracePrinter {
 
     /// Prints the part of a page after its picture.
     ///
-    /// Other formats have no such part.
+    /// Only `Html` has such a part. For the other formats nothing is printed.
     ///
     /// Errors: `Output` if `out` fails. How much has been written is then unspecified.
     ///

@@ -87,7 +87,9 @@ impl InputValue {
         }))
     }
 
-    /// Returns the input of a turn that delivers frame `frame` from `from`.
+    /// Returns the input of a turn that delivers frame `frame`, sent by `from`.
+    ///
+    /// Does not allocate.
     ///
     /// Formats: The command line
     pub fn of_turn(frame: u64, from: Proc) -> InputValue {
@@ -97,7 +99,9 @@ impl InputValue {
         })
     }
 
-    /// Returns the input of a line `deliver`.
+    /// Returns the input of a line `deliver`: the frame's number, `None` for 2^64 or more, and the kind of delivery.
+    ///
+    /// Does not allocate.
     ///
     /// Formats: The command line
     pub fn of_delivery(frame: Option<u64>, kind: DeliveryKind) -> InputValue {
@@ -120,8 +124,8 @@ pub struct SendValue {
 }
 
 impl SendValue {
-    /// Returns frame `frame`, sent to the nodes `to`, with its line in a listing and the names of the calls that it
-    /// carries.
+    /// Returns the value of frame `frame`, sent to the nodes `to`, with its line in a listing, `says`, and the names of
+    /// the calls that it carries.
     ///
     /// Errors: `Memory` if an allocation fails.
     ///

@@ -30,6 +30,8 @@ use std::io::Write;
 
 /// A printer of the lines of a trace as JSON.
 ///
+/// Each function prints one object as one line, with its line feed.
+///
 /// Formats: The command line
 #[derive(Clone, Copy)]
 pub struct JsonPrinter {
@@ -135,7 +137,7 @@ impl JsonPrinter {
 
     /// Prints the object of a cut into these groups, or of a heal.
     ///
-    /// `kind` must be `cut`, or `heal` without groups.
+    /// `kind` must be `cut`, or `heal` without groups; this isn't checked.
     ///
     /// Errors: as for [`print_event`](JsonPrinter::print_event).
     ///
@@ -174,7 +176,7 @@ impl JsonPrinter {
         self.print_line(out, &line)
     }
 
-    /// Prints the object with a node's counts over the whole run.
+    /// Prints, as one line, the object with a node's counts over the whole run and its gauges at the end of the run.
     ///
     /// Errors: as for [`print_event`](JsonPrinter::print_event).
     ///
@@ -239,8 +241,8 @@ impl JsonPrinter {
         self.print_line(out, &line)
     }
 
-    /// Prints the object of a committed place of the log, counted from 0: its call, and the answer of the sessions to
-    /// it.
+    /// Prints the object of a committed place: `place`, counted from 0, its call, and the answer that the sessions give
+    /// to the call at this place.
     ///
     /// Errors: as for [`print_event`](JsonPrinter::print_event).
     ///

@@ -69,6 +69,8 @@ impl<A: Allocator + Copy> CallArcs<A> {
 
     /// Adds the arc of a call at the end.
     ///
+    /// Arcs must be added in the order of their first columns; this isn't checked.
+    ///
     /// Errors: `Memory` if an allocation fails; nothing is added.
     pub fn push_arc(&mut self, arc: CallArc<A>) -> Result<(), Fault>
         ensures { IfErr result (λ fault. fault ≡ Memory) }
@@ -77,9 +79,10 @@ impl<A: Allocator + Copy> CallArcs<A> {
         Ok(())
     }
 
-    /// Ends the first open arc of this call in column `column`.
+    /// Ends the first open arc of this call, given by its node, client and number, in column `column`.
     ///
-    /// If there is none, nothing changes.
+    /// `end` must not be `Waiting`. The arc gets `title` in place of its text; the other arcs are unchanged. If no arc
+    /// of the call is open, nothing changes. Does not allocate.
     pub fn end_open_arc(
         &mut self,
         (node, client, number): (Proc, u32, u64),

@@ -76,6 +76,8 @@ impl Band {
 
 impl Canvas {
     /// Returns the node whose lane has the index `before`, counted from 0.
+    ///
+    /// There must be such a lane; otherwise the result is any node.
     pub fn node(self, before: u8) -> Proc {
         let number = self.first_lane_node.saturating_add(before);
         if 1 <= number && number <= MAX_PROCESSORS {
@@ -85,14 +87,14 @@ impl Canvas {
         }
     }
 
-    /// Returns the left edge of column `column`, counted from 0, in the strip.
+    /// Returns the left edge of column `column`, counted from 0, in the strip, in points.
     pub fn x(self, column: u64) -> u64 {
         column.saturating_mul(COLUMN)
     }
 
-    /// Returns the upper edge of a node's bar, in the strip and in a band.
+    /// Returns the upper edge of a node's bar, in the strip and in a band, in points.
     ///
-    /// The node must have a lane.
+    /// The node must have a lane; this isn't checked.
     pub fn y(self, node: Proc) -> u64 {
         let before = node.number().saturating_sub(self.first_lane_node);
         u64::from(before)
@@ -100,14 +102,14 @@ impl Canvas {
             .saturating_add(SPACE_ABOVE_LANES + SPACE_ABOVE_BAR)
     }
 
-    /// Returns the lower edge of the last lane, in the strip and in a band.
+    /// Returns the lower edge of the last lane, in the strip and in a band, in points.
     pub fn lanes_bottom(self) -> u64 {
         u64::from(self.lanes)
             .saturating_mul(LANE)
             .saturating_add(SPACE_ABOVE_LANES)
     }
 
-    /// Returns the height of the strip, which is also that of a band.
+    /// Returns the height of the strip, which is also that of a band, in points.
     pub fn bottom(self) -> u64 {
         self.lanes_bottom().saturating_add(SPACE_BELOW_LANES)
     }
@@ -131,6 +133,8 @@ impl Canvas {
     }
 
     /// Returns band `index`, counted from 0.
+    ///
+    /// There must be such a band: `index` must be below [`bands`](Canvas::bands). This isn't checked.
     pub fn band(self, index: u64) -> Band {
         let columns = self.columns_of_band();
         let begin = index.saturating_mul(columns);
@@ -141,31 +145,32 @@ impl Canvas {
         }
     }
 
-    /// Returns the upper edge of a band in the picture.
+    /// Returns the upper edge of a band in the picture, in points.
     pub fn band_top(self, band: Band) -> u64 {
         self.bottom().saturating_mul(band.index)
     }
 
-    /// Returns the left edge of the bands in the picture.
+    /// Returns the left edge of the bands in the picture, in points.
     pub fn bands_left_edge(self) -> u64 {
         MARGIN
     }
 
-    /// Returns the width of the part of the strip that a band shows: its columns, and the space to their right.
+    /// Returns the width, in points, of the part of the strip that a band shows: its columns, and the space to their
+    /// right.
     pub fn band_view_width(self) -> u64 {
         self.x(self.columns_of_band())
             .saturating_add(SPACE_RIGHT_OF_COLUMNS)
     }
 
-    /// Returns the left edge in the strip for a text of this width at `x` in a band.
+    /// Returns the left edge in the strip, in points, for a text of this width at `x` in a band.
     ///
-    /// It is further left than `x` if the text would reach beyond the band.
+    /// It is further left than `x` if the text would reach beyond the band, but not left of the band.
     pub fn fitted_text_x(self, band: Band, x: u64, width: u64) -> u64 {
         let end = self.x(band.begin).saturating_add(self.band_view_width());
         x.min(end.saturating_sub(width)).max(self.x(band.begin))
     }
 
-    /// Returns the upper edge of the legend, which is below all bands.
+    /// Returns the upper edge of the legend, which is below all bands, in points.
     pub fn legend(self) -> u64 {
         self.bottom().saturating_mul(self.bands())
     }
@@ -175,7 +180,7 @@ impl Canvas {
         WIDTH
     }
 
-    /// Returns the height of the picture.
+    /// Returns the height of the picture, in points.
     pub fn height(self) -> u64 {
         self.legend().saturating_add(LEGEND)
     }

@@ -29,7 +29,8 @@ impl LabelRows {
     /// Places a label with the left edge `x` and this width, and returns its row: the lower one if there is room,
     /// otherwise the upper one.
     ///
-    /// Returns `None` if neither has room.
+    /// There is room in a row if its last label ends at `x` or before, so labels must be placed from left to right.
+    /// Returns `None` and places nothing if neither row has room.
     pub fn place_label(&mut self, x: u64, width: u64) -> Option<LabelRow> {
         let end = x.saturating_add(width);
         if self.lower <= x {
@@ -45,7 +46,7 @@ impl LabelRows {
 
     /// Places a label as `place_label` does, but only in the lower row.
     ///
-    /// Returns whether it was placed.
+    /// Returns whether it was placed. If it wasn't, nothing changes.
     pub fn place_below(&mut self, x: u64, width: u64) -> bool {
         let is_free = self.lower <= x;
         if is_free {

@@ -54,7 +54,7 @@ impl<A: Allocator + Copy> Picture<A> {
     /// Creates the picture of these nodes at their opening.
     ///
     /// It has a lane for each node, or only for `only` if that is given. The last column is column 0, which comes
-    /// before all events.
+    /// before all events. Does not allocate.
     ///
     /// Formats: The command line
     pub fn new(alloc: A, nodes: Fixed, only: Option<Proc>) -> Picture<A>
@@ -73,7 +73,8 @@ impl<A: Allocator + Copy> Picture<A> {
 
     /// Begins the next column, for event `event`.
     ///
-    /// A picture has at most 2,000 columns: once an event has no column, all later marks are left out.
+    /// A picture has at most 2,000 columns after column 0: once an event has no column, all later marks are left out.
+    /// Does not allocate.
     ///
     /// Formats: The command line
     pub fn begin_column(&mut self, event: u64)
@@ -86,7 +87,9 @@ impl<A: Allocator + Copy> Picture<A> {
         }
     }
 
-    /// Adds a mark to the last column, unless an event before has no column.
+    /// Adds a mark to the last column.
+    ///
+    /// If an earlier event has no column, nothing is added.
     ///
     /// Errors: `Memory` if an allocation fails; nothing is added.
     ///

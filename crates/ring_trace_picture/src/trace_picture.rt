@@ -32,6 +32,8 @@ pub struct TracePicture<A: Allocator> {
 impl<A: Allocator + Copy> TracePicture<A> {
     /// Creates the picture of these nodes at their opening, with a lane for each, or only for `only` if that is given.
     ///
+    /// Does not allocate.
+    ///
     /// Formats: The command line
     pub fn new(alloc: A, nodes: Fixed, only: Option<Proc>) -> TracePicture<A>
         ensures { result.picture ≡ opening_picture nodes only }
@@ -42,7 +44,7 @@ impl<A: Allocator + Copy> TracePicture<A> {
         }
     }
 
-    /// Draws changes of a node into the last column.
+    /// Draws changes of a node into the last column, in order.
     ///
     /// If a picture begins later than the run, these are the changes since the node's opening.
     ///
@@ -63,7 +65,7 @@ impl<A: Allocator + Copy> TracePicture<A> {
     ///
     /// `what` is the text shown for it until it is answered.
     ///
-    /// Errors: `Memory` if an allocation fails; nothing is drawn.
+    /// Errors: `Memory` if an allocation fails; the call's arc may then have been begun, without its mark.
     ///
     /// Formats: The command line
     pub fn add_call(&mut self, call: &WaitingCall, what: &str) -> Result<(), Fault>
@@ -82,9 +84,7 @@ impl<A: Allocator + Copy> TracePicture<A> {
     /// Draws an event into a column of its own.
     ///
     /// The column has the event's number, the call that it submits, its changes to the node, and the node's reports, in
-    /// the words of the object.
-    ///
-    /// `what` describes the event.
+    /// the words of the object. The event's description is the text shown for the call until it is answered.
     ///
     /// Errors: `Memory` if an allocation fails; a part may then have been drawn.
     ///
@@ -262,7 +262,7 @@ impl<A: Allocator + Copy> TracePicture<A> {
 
     /// Begins an empty column.
     ///
-    /// `events` is the number of events before it.
+    /// `events` is the number of events before it. Does not allocate.
     ///
     /// Formats: The command line
     pub fn begin_empty_column(&mut self, events: u64)

@@ -63,7 +63,9 @@ impl Fold {
 
     /// Adds the frame that event `event` delivers to `node`.
     ///
-    /// Events must be added in the order of their numbers.
+    /// The event becomes the last one, and the first if the fold had no frame. `frames` grows by 1, and `rounds` too if
+    /// `node` is the receiver of the first frame; both saturate at 2^64 - 1. Events must be added in the order of their
+    /// numbers; this isn't checked.
     ///
     /// Formats: The command line
     pub fn add_frame(&mut self, event: u64, node: Proc)
@@ -82,7 +84,7 @@ impl Fold {
 
     /// Counts one more copy that was lost to a cut.
     ///
-    /// The count saturates at `u64::MAX`.
+    /// The count saturates at 2^64 - 1. Everything else is unchanged.
     ///
     /// Formats: The command line
     pub fn count_lost_copy(&mut self)

@@ -6,16 +6,17 @@ use ring_base::Proc;
 use ring_counts::{FrameCounts, NodeCounts, NodeGauges};
 use std::fmt;
 
-/// The counts of a node over the whole run, displayed as its line in a trace, without the line feed.
+/// A node's counts over the whole run and its gauges at the end, displayed as its line in a trace, without the line
+/// feed.
 ///
 /// Formats: The command line
 #[derive(Clone, Copy)]
 pub struct NodeTotals {
     /// The node.
     pub node: Proc,
-    /// The counts of its steps.
+    /// The counts of its steps over the whole run.
     pub counts: NodeCounts,
-    /// What else is read of it at the end.
+    /// Its gauges at the end of the run.
     pub gauges: NodeGauges,
 }
 

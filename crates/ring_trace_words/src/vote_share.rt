@@ -25,6 +25,8 @@ pub struct VoteShare {
 impl VoteShare {
     /// Returns the share of the set `set` in the votes of `nodes`.
     ///
+    /// Processors outside the group have no votes.
+    ///
     /// Rules: Processors and sets 4
     pub fn of(nodes: Fixed, set: ProcSet) -> VoteShare
         ensures value { result ≡ vote_share nodes set }

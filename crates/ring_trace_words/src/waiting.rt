@@ -96,6 +96,8 @@ impl<A: Allocator + Copy> WaitingCalls<A> {
 
     /// Adds a call at the end.
     ///
+    /// Whether the list has the call already isn't checked.
+    ///
     /// Errors: `Memory` if an allocation fails; nothing is added.
     pub fn push_waiting_call(&mut self, call: WaitingCall) -> Result<(), Fault>
         ensures ok { OnOk result (self.new ≡ self.old ++ call ∷ []) }
@@ -108,7 +110,7 @@ impl<A: Allocator + Copy> WaitingCalls<A> {
 
     /// Removes the call that was added last.
     ///
-    /// An empty list stays empty.
+    /// An empty list stays empty. Does not allocate.
     pub fn remove_newest(&mut self)
         ensures { self.new ≡ take (length self.old - 1) self.old }
     {
@@ -117,7 +119,7 @@ impl<A: Allocator + Copy> WaitingCalls<A> {
 
     /// Removes the oldest call with the same node, client and number as `call`.
     ///
-    /// If there is none, nothing changes.
+    /// The others keep their order. If there is none, nothing changes. Does not allocate.
     ///
     /// Formats: The command line
     pub fn remove_oldest_match(&mut self, call: WaitingCall)

@@ -80,7 +80,8 @@ pub fn run<
 /// Runs the command of these words as [`run`] does, over a user-defined object with the words of its operations and
 /// replies.
 ///
-/// Only `live` still calls the counters of the standard object. Returns the exit status, 0 to 2.
+/// `T` is the object and `V` has its words. Only `live` still calls the counters of the standard object. Returns the
+/// exit status, 0 to 2, as `run` does.
 ///
 /// Errors: as for [`run`].
 ///

@@ -1,11 +1,11 @@
-//! A client of three nodes, the first of which is cut off from the others. The client's call is answered through the second node,
-//! and takes effect once.
+//! A client of three nodes, the first of which is cut off from the others. The client's call is answered through the
+//! second node, and takes effect once.
 //!
-//! Nodes 2 and 3 hear each other, and node 1 hears nobody. The client adds 5 to a counter. It submits the call at node 1 first,
-//! which takes it and waits for a ring in vain: a ring of one of three nodes is no majority. After all its polls there the client
-//! passes on to node 2, with the same call under the same number. Nodes 2 and 3 are a majority, and their ring answers. Then all
-//! hear each other again, and node 1 learns the committed calls. The call that it still waits for is among them, so it isn't sent
-//! a second time, and the counter that the client reads at node 1 is at 5.
+//! Nodes 2 and 3 hear each other, and node 1 hears nobody. The client adds 5 to a counter. It submits the call at node
+//! 1 first, which accepts it but never forms a primary ring: one of three nodes is no majority. After all its polls
+//! there the client moves on to node 2, with the same call under the same number. Nodes 2 and 3 are a majority, and
+//! their ring answers. Then all hear each other again, and node 1 learns the committed calls. The call that it still
+//! waits for is among them, so it isn't sent a second time, and the counter that the client reads at node 1 is at 5.
 
 use std::cell::RefCell;
 use std::io;
@@ -24,7 +24,7 @@ const TURNS: u32 = 400;
 /// The results of the client's calls.
 #[derive(Clone, Copy)]
 struct RetrySummary {
-    /// The number of polls of its first call at node 1, all of them in vain.
+    /// The number of polls of its first call at node 1, none of which got an answer.
     unanswered: u64,
     /// The counter in the reply to the add.
     added: u64,
@@ -36,7 +36,9 @@ struct RetrySummary {
     read: u64,
 }
 
-/// Runs the scenario and prints its results.
+/// Runs the scenario and prints its results, or the fault if it is refused.
+///
+/// Errors: those of standard output.
 pub fn print_results<R: AllocGlobal + Print>(rt: &R) -> io::Result<()> {
     match call_twice::<Counters>(rt.alloc()) {
         Ok(summary) => print_summary(rt, &summary),
@@ -62,7 +64,11 @@ fn print_summary<R: Print>(rt: &R, summary: &RetrySummary) -> io::Result<()> {
     )
 }
 
-/// Returns a network of three nodes in which the node `alone` hears nobody.
+/// Returns a network of the nodes `fixed` at their opening, in which the node `alone` hears nobody.
+///
+/// All other nodes hear each other.
+///
+/// Errors: `Memory` if an allocation fails.
 pub fn cut_network<O: Object>(
     alloc: O::Alloc,
     fixed: Fixed,
@@ -93,7 +99,9 @@ fn add_ports<O: Object>(
     add_port(shared, second, ports)
 }
 
-/// Returns a client with a port to each of two nodes.
+/// Returns client 7, with a port to each of two nodes, in the order in which it tries them.
+///
+/// Errors: `Memory` if an allocation fails.
 pub fn client_of<O: Object>(
     alloc: O::Alloc,
     shared: &SharedNetwork<O>,
@@ -147,7 +155,7 @@ fn call_twice<O: Object>(alloc: O::Alloc) -> Result<RetrySummary, Fault> {
     summary
 }
 
-/// Returns the number of polls of the client's first node for the last call, if all of them were in vain; else 0.
+/// Returns the number of polls of the client's first node for the last call, or 0 if one of them got an answer.
 fn unanswered_polls<P: Port>(client: &Client<P>) -> u64 {
     match client.ports().first() {
         Some(port) if port.asked().answer.is_none() => port.asked().polls,
@@ -155,8 +163,8 @@ fn unanswered_polls<P: Port>(client: &Client<P>) -> u64 {
     }
 }
 
-/// Lets all nodes hear each other again: this one calls for the others, and the network takes its turns. Returns the number of
-/// calls that the node has committed then, and the number in the order.
+/// Lets all nodes hear each other again: this one calls for the others, and the network takes its turns. Returns the
+/// number of calls that the node has committed then, and the number in the order.
 fn heal<O: Object>(shared: &SharedNetwork<O>, node: Proc) -> Result<(u64, u64), Fault> {
     let Ok(mut network) = shared.try_borrow_mut() else {
         return Err(Fault::NoAnswer);
@@ -177,7 +185,7 @@ fn settle<O: Object>(network: &mut Network<O>, node: Proc) -> Result<(u64, u64),
     Ok((world.node(node).committed_len(), world.order_len()))
 }
 
-/// Returns the count in a counter's reply, 0 where it has none.
+/// Returns the count in a counter's reply, or 0 if it has none.
 pub fn count_of(reply: &Reply) -> u64 {
     match ReplyParts::read(reply.as_slice()) {
         Some(

@@ -11,7 +11,7 @@ use std::thread::Threads;
 use std::time::Clock;
 use totem_command::run;
 
-/// What a command writes on standard output and standard error, and its exit status.
+/// The bytes that a command writes on standard output and standard error, and its exit status.
 #[derive(Drop)]
 pub struct CommandOutput {
     pub out: Vec<u8>,
@@ -19,7 +19,10 @@ pub struct CommandOutput {
     pub status: u8,
 }
 
-/// Runs the command line whose words are in this text, parted by spaces or line feeds, on an input. Returns what it writes.
+/// Runs the command line in this text on an input, and returns its output and exit status.
+///
+/// The words of the line are separated by spaces or line feeds. `totem`, the program's name, isn't among them. A bad
+/// line, or one that isn't UTF-8, is reported as the program reports it.
 pub fn output_of<R: Files + AllocGlobal + Threads + Wait + Clock + Sync>(
     rt: &R,
     line: &[u8],
@@ -31,8 +34,10 @@ pub fn output_of<R: Files + AllocGlobal + Threads + Wait + Clock + Sync>(
     CommandOutput { out, err, status }
 }
 
-/// Runs a command line on an input, and returns the exit status. Input and outputs are `dyn`, so that each command is compiled
-/// once.
+/// Runs the command line in this text on an input, and returns the exit status.
+///
+/// The words are those of [`output_of`]. The command writes on `out`, `err` and, if there is one, `progress`. The input
+/// and the outputs are `dyn`, so that each command is compiled only once.
 pub fn run_line<R: Files + AllocGlobal + Threads + Wait + Clock + Sync>(
     rt: &R,
     line: &[u8],

@@ -38,7 +38,9 @@ const TRACED: [&str; 4] = [
     "gen --nodes 3 --seed 4 --events 80",
 ];
 
-/// Prints whether the commands agree.
+/// Runs the commands and prints two lines that say whether they agree.
+///
+/// Errors: those of standard output, or of kind `OutOfMemory` if an allocation fails.
 pub fn print_results<R: Files + AllocGlobal + Print + Threads + Wait + Clock + Sync>(
     rt: &R,
 ) -> io::Result<()> {
@@ -58,7 +60,7 @@ pub fn print_results<R: Files + AllocGlobal + Print + Threads + Wait + Clock + S
     )
 }
 
-/// Returns what a command line prints on this input: nothing where its exit status isn't 0 or standard error isn't empty.
+/// Returns what a command line prints on this input: nothing if its exit status isn't 0 or standard error isn't empty.
 fn text_of<R: Files + AllocGlobal + Threads + Wait + Clock + Sync>(
     rt: &R,
     line: &str,
@@ -75,8 +77,8 @@ fn text_of<R: Files + AllocGlobal + Threads + Wait + Clock + Sync>(
     String::from_utf8(out).unwrap_or(String::new(rt.alloc()))
 }
 
-/// Returns whether exploring one seed runs the generated script of the same numbers: it counts that script's calls and printed
-/// answers, and installs rings.
+/// Returns whether exploring one seed runs the generated script of the same numbers: it counts that script's calls and
+/// printed answers, and installs rings.
 fn explores_its_script<R: Files + AllocGlobal + Threads + Wait + Clock + Sync>(
     rt: &R,
     made: &str,
@@ -131,7 +133,8 @@ fn word_behind<'a>(part: &'a str, words: &str) -> Option<(&'a str, &'a str)> {
     Some((node, rest.split(' ').next().unwrap_or("")))
 }
 
-/// Returns whether this is the word that the trace last gives for a node after these words; `at_first` where it gives none.
+/// Returns whether this is the word that the trace last gives for a node after these words; `at_first` if it gives
+/// none.
 fn is_told_last(text: &str, node: &str, words: &str, wanted: &str, at_first: bool) -> bool {
     let mut is_last = at_first;
     for line in text.lines() {

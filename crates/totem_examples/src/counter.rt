@@ -10,7 +10,10 @@ use totem_ring::{
 /// The number of frames handed to the node: four form its ring, and two more bring the call's answer.
 const LETTERS: usize = 6;
 
-/// Prints the counter in the node's answer.
+/// Runs the scenario and prints the counter in the node's answer, or that there is no reply, or the fault if it is
+/// refused.
+///
+/// Errors: those of standard output.
 pub fn print_results<R: AllocGlobal + Print>(rt: &R) -> io::Result<()> {
     match count::<Counters>(rt.alloc()) {
         Ok(Some(count)) => println!(rt; "the counter is at {count}"),

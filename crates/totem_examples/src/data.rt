@@ -10,13 +10,15 @@
 //! - `NAME.explain` is run by `totem script --explain`.
 //! - `NAME.trace` and `NAME.svg` are the expected output of `totem trace` for `NAME.script`, as text and as a picture.
 //! - `NAME.claims` has a command line, and in its other lines claims on what it prints (`expected`).
-//! - `NAME.same` has command lines that all print the same, and `NAME.broken` one whose standard output fails (`repeated`).
-//! - `NAME.out` is the expected standard output; of a `NAME.legal` its expected end; of a `NAME.records` in hexadecimal.
-//! - `NAME.fault` has the expected exit status, a space, and the expected standard error. `2 ...` stands for a bad command line
-//!   with any message.
+//! - `NAME.same` has command lines that all print the same, and `NAME.broken` one whose standard output fails
+//!   (`repeated`).
+//! - `NAME.out` is the expected standard output; of a `NAME.legal` its expected end; of a `NAME.records` in
+//!   hexadecimal.
+//! - `NAME.fault` has the expected exit status, a space, and the expected standard error. `2 ...` stands for a bad
+//!   command line with any message.
 //!
-//! Where `NAME.out` is missing, standard output must be empty. Where `NAME.fault` is missing, standard error must be empty and
-//! the exit status 0.
+//! If `NAME.out` is missing, standard output must be empty. If `NAME.fault` is missing, standard error must be empty
+//! and the exit status 0.
 //!
 //! Formats: The command line
 
@@ -37,8 +39,11 @@ use std::{fs, io, str};
 /// The folder of the examples: the one in which the program runs.
 const FOLDER: &str = ".";
 
-/// Runs the examples and prints a line for each, those of a kind in alphabetical order. Returns whether all printed the expected
-/// output.
+/// Runs the examples and prints a line for each, those of a kind in alphabetical order.
+///
+/// Returns whether all printed the expected output.
+///
+/// Errors: those of reading the examples' files, and those of standard output.
 pub fn run_all<R: Files + AllocGlobal + Print + Threads + Wait + Clock + Sync + Clone + Drop>(
     rt: &R,
 ) -> io::Result<bool> {
@@ -101,7 +106,7 @@ fn add_names<R: Files + AllocGlobal + Clone + Drop>(
     Ok(names.sort()?)
 }
 
-/// Adds the name of an example, where the file's name is that of an example of this kind.
+/// Adds the name of an example, if the file's name is that of an example of this kind.
 fn add_name(alloc: Global, file: &str, kind: Kind, names: &mut Vec<String>) -> io::Result<()> {
     match file.strip_suffix(kind.ending()) {
         Some(name) => Ok(names.push(String::from_str(alloc, name)?)?),
@@ -144,7 +149,7 @@ fn printed_by<R: Files + AllocGlobal + Threads + Wait + Clock + Sync>(
     }
 }
 
-/// Returns the first line of a text, without its end; the whole text where it has one line, or isn't UTF-8.
+/// Returns the first line of a text, without its end; the whole text if it has one line or isn't UTF-8.
 fn first_line(text: &[u8]) -> &[u8] {
     let Ok(lines) = str::from_utf8(text) else {
         return text;

@@ -4,7 +4,7 @@
 //!
 //! - `begins TEXT` and `ends TEXT`: the output begins with it, and ends with it and a line feed;
 //! - `each TEXT`: each line begins with it, and there is one;
-//! - `line TEXT`: just one line is this text;
+//! - `line TEXT`: exactly one line is this text;
 //! - `N TEXT`: the text is there N times.
 
 use crate::command::CommandOutput;
@@ -19,7 +19,13 @@ use std::{fs, io, str};
 /// The `.fault` of a bad command line whose message isn't compared.
 const ANY_MESSAGE: &[u8] = b"2 ...";
 
-/// Returns whether this is the expected standard output of an example of this kind and name whose file has these bytes.
+/// Returns whether `out` is the expected standard output of an example of this kind and name whose file has the bytes
+/// `input`.
+///
+/// For a trace or a picture the expected output is `input` itself, for claims `input` has the claims, and otherwise it
+/// is in `NAME.out`, which is empty if there is no such file.
+///
+/// Errors: those of reading `NAME.out`; for records also those of [`decode_hex`].
 pub fn is_output_expected<R: Files + AllocGlobal>(
     rt: &R,
     kind: Kind,
@@ -55,7 +61,11 @@ fn is_hex_of(alloc: Global, text: &[u8], out: &[u8]) -> io::Result<bool> {
     Ok(wanted.as_slice() == out)
 }
 
-/// Returns whether this is the expected standard error, and the exit status is right.
+/// Returns whether the standard error and the exit status are those in `NAME.fault`.
+///
+/// If there is no such file, standard error must be empty and the exit status 0.
+///
+/// Errors: those of reading `NAME.fault`, or of kind `OutOfMemory` if an allocation fails.
 pub fn is_error_expected<R: Files + AllocGlobal>(
     rt: &R,
     name: &str,
@@ -69,7 +79,7 @@ pub fn is_error_expected<R: Files + AllocGlobal>(
     Ok(fault.as_slice() == wanted.as_slice())
 }
 
-/// Returns the text of a `.fault` for this output: empty where standard error is empty and the exit status is 0.
+/// Returns the text of a `.fault` for this output: empty if standard error is empty and the exit status is 0.
 fn fault_of(alloc: Global, printed: &CommandOutput) -> io::Result<Vec<u8>> {
     let mut fault = Vec::new(alloc);
     if printed.status != 0 || !printed.err.is_empty() {
@@ -84,7 +94,8 @@ fn write_fault(printed: &CommandOutput, fault: &mut Vec<u8>) -> io::Result<()> {
     fault.write_all(printed.err.as_slice())
 }
 
-/// Returns whether each claim in the lines of a text, but for its first line, is true of an output. There is one at least.
+/// Returns whether each claim in the lines of a text, but for its first line, is true of an output. There is one at
+/// least.
 fn meets_claims(text: &[u8], out: &[u8]) -> bool {
     let (Ok(text), Ok(out)) = (str::from_utf8(text), str::from_utf8(out)) else {
         return false;
@@ -130,13 +141,15 @@ fn count_lines(out: &str, text: &str, only_begin: bool) -> usize {
     count
 }
 
-/// Reads the file of this name and ending.
+/// Reads the file with this name and ending, the path being one after the other.
+///
+/// Errors: those of reading the file, or of kind `OutOfMemory` if an allocation fails.
 pub fn read<R: Files + AllocGlobal>(rt: &R, name: &str, ending: &str) -> io::Result<Vec<u8>> {
     let path = format!(in rt.alloc(); "{name}{ending}")?;
     fs::read(rt, path.as_str())
 }
 
-/// Reads the file of this name and ending; none where there is no such file.
+/// Reads the file with this name and ending. Returns no bytes if there is no such file.
 fn read_any<R: Files + AllocGlobal>(rt: &R, name: &str, ending: &str) -> io::Result<Vec<u8>> {
     match read(rt, name, ending) {
         Err(error) if error.kind() == ErrorKind::NotFound => Ok(Vec::new(rt.alloc())),

@@ -4,8 +4,12 @@ use std::alloc::Global;
 use std::io::{self, Error, ErrorKind};
 use std::str;
 
-/// Decodes the hexadecimal of a text.
-/// Errors: of kind `InvalidData` where a line is neither hexadecimal nor a comment; of kind `OutOfMemory`.
+/// Decodes the hexadecimal in the lines of a text, and returns the bytes.
+///
+/// Lines that begin with `#` are comments. An empty line has no bytes.
+///
+/// Errors: of kind `InvalidData` if the text isn't UTF-8, or if a line is neither hexadecimal nor a comment; of kind
+/// `OutOfMemory` if an allocation fails.
 pub fn decode_hex(alloc: Global, text: &[u8]) -> io::Result<Vec<u8>> {
     let Ok(text) = str::from_utf8(text) else {
         return Err(Error::from(ErrorKind::InvalidData));

@@ -1,6 +1,6 @@
 //! The kinds of examples that are data. `data` says what each is.
 
-/// The kind of an example.
+/// The kind of an example. The head of `data` says what each is.
 #[derive(Clone, Copy)]
 pub enum Kind {
     Script,
@@ -36,7 +36,7 @@ pub const KINDS: [Kind; 13] = [
 ];
 
 impl Kind {
-    /// Returns the ending of the names of such examples.
+    /// Returns the ending of the file names of such examples, with its dot.
     pub fn ending(self) -> &'static str {
         match self {
             Kind::Script => ".script",

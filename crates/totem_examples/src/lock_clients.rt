@@ -1,8 +1,8 @@
 //! A lock table, a user-defined object, on three nodes: two clients ask for one lock, and a node is cut off meanwhile.
 //!
-//! Client 1 tries nodes 1 and 2, client 2 nodes 2 and 3. Client 1 acquires lock 7 for holder 11. So client 2 is refused it for
-//! holder 22, and learns the holder. Then node 1 is cut off. Client 1 releases the lock: it polls node 1 in vain, and tries the
-//! same call at node 2, where it takes effect. So client 2 gets the lock.
+//! Client 1 tries nodes 1 and 2, client 2 nodes 2 and 3. Client 1 acquires lock 7 for holder 11. So client 2 is refused
+//! it for holder 22, and learns the holder. Then node 1 is cut off. Client 1 releases the lock: it polls node 1 and
+//! gets no answer, and tries the same call at node 2, where it takes effect. So client 2 gets the lock.
 
 use crate::lock_operation::LockOperation;
 use crate::locks::Locks;
@@ -27,7 +27,9 @@ struct LockSummary {
     holder: ReplyParts,
 }
 
-/// Runs the scenario and prints its results.
+/// Runs the scenario and prints its results, or the fault if it is refused.
+///
+/// Errors: those of standard output.
 pub fn print_results<R: AllocGlobal + Print>(rt: &R) -> io::Result<()> {
     match ask_for_lock::<Locks>(rt.alloc()) {
         Ok(summary) => print_summary(rt, &summary),

@@ -17,7 +17,7 @@ pub enum LockOperation {
 }
 
 impl LockOperation {
-    /// Returns the operation's bytes, from which `read` gives it back.
+    /// Returns the operation's bytes, which [`read`](LockOperation::read) decodes.
     #[tactic(auto, using(crate::specs::LocksLaws::parts_read))]
     pub fn encode(self) -> Operation
         ensures bytes { result ≡ encoding self }
@@ -37,7 +37,7 @@ impl LockOperation {
         KeyedOperation { code, key, value }
     }
 
-    /// Decodes an operation; none where the bytes encode none.
+    /// Decodes an operation. Returns `None` if the bytes don't encode one.
     pub fn read(op: &[u8]) -> Option<LockOperation>
         ensures { result ≡ decoding op.now }
     {

@@ -1,5 +1,5 @@
-//! The lock table on three nodes on threads, one of which has stopped. Two clients on threads ask for the same ten locks, and
-//! each gets some of them.
+//! The lock table on three nodes on threads, one of which has stopped. Two clients on threads ask for the same ten
+//! locks, and each gets some of them.
 
 use crate::lock_operation::LockOperation;
 use crate::locks::Locks;
@@ -8,7 +8,8 @@ use std::sync::Wait;
 use std::thread::Threads;
 use totem_ring::{Caller, Client, Fault, Fixed, Object, Port, run_callers};
 
-/// The most times that a client tries again a call that no node has answered: the nodes may still be forming their ring.
+/// The most times that a client tries again a call that no node has answered: the nodes may still be forming their
+/// ring.
 const TRIES: u64 = 1_000;
 
 /// A client that asks for ten locks for `holder`; `first` is the node that it tries first.
@@ -60,7 +61,11 @@ where
     Ok(count)
 }
 
-/// Prints the number of calls.
+/// Runs the scenario, and prints the number of calls in the one order, or the fault if it is refused.
+///
+/// Waits for the threads.
+///
+/// Errors: those of standard output.
 pub fn print_results<R: AllocGlobal + Print + Threads + Wait + Sync>(rt: &R) -> io::Result<()> {
     match count::<Locks, _>(rt, rt.alloc()) {
         Ok(count) => {

@@ -1,4 +1,5 @@
-//! The lock table's own program, which has the commands of the program `totem` with its own words, and the output for a script.
+//! The lock table's own program, which has the commands of the program `totem` with its own words, and the output for a
+//! script.
 
 use crate::lock_vocabulary::LockVocabulary;
 use crate::locks::Locks;
@@ -11,7 +12,8 @@ use std::time::Clock;
 use std::{io, str};
 use totem_command::run_of;
 
-/// Three nodes settle. Client 7 acquires lock 7 for holder 11, in words, and then for holder 22, by the operation's bytes.
+/// Three nodes settle. Client 7 acquires lock 7 for holder 11, in words, and then for holder 22, by the operation's
+/// bytes.
 const SCRIPT: &str = "nodes 3\n\
     timeout 1 join\n\
     timeout 2 join\n\
@@ -21,8 +23,11 @@ const SCRIPT: &str = "nodes 3\n\
     call 2 7 2 raw 01070000000000000016\n\
     pump 100\n";
 
-/// Runs the command of these words, the first of which is the program's own name. Returns the exit status. Reader and writers are
-/// `dyn`, so that all commands are compiled for one of each.
+/// Runs the command of these words, the first of which is the program's own name, and returns the exit status.
+///
+/// The reader and the writers are `dyn`, so that all commands are compiled for one of each.
+///
+/// Errors: as for `run_of` of `totem_command`.
 pub fn run<R: Files + AllocGlobal + Threads + Wait + Clock + Sync>(
     rt: &R,
     words: &io::Result<Vec<String>>,
@@ -37,7 +42,9 @@ pub fn run<R: Files + AllocGlobal + Threads + Wait + Clock + Sync>(
 }
 
 /// Prints five outputs of the program: of the script; of a sweep of it, with a stop or a cut of each node before any
-/// event; of made scripts; the replies in a trace; and those in its page.
+/// event; of generated scripts; the replies in a trace; and those in its page.
+///
+/// Errors: those of standard output.
 pub fn print_results<R: Files + AllocGlobal + Print + Threads + Wait + Clock + Sync>(
     rt: &R,
 ) -> io::Result<()> {

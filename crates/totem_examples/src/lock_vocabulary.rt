@@ -2,7 +2,8 @@
 
 use totem_ring::{Argument, OperationForm, ReplyForm, ReplyVocabulary, Vocabulary};
 
-/// The words `acquire LOCK HOLDER`, `release LOCK HOLDER` and `holder LOCK`.
+/// The words of a lock table: the operations `acquire LOCK HOLDER`, `release LOCK HOLDER` and `holder LOCK`, and the
+/// replies `done` and `held by HOLDER`.
 #[derive(Clone, Copy)]
 pub struct LockVocabulary;
 

@@ -13,9 +13,9 @@ use totem_ring::{
 ///
 /// | Operation | Reply |
 /// |---|---|
-/// | acquire | done where the lock was free or the holder's already; else refused, with the holder |
-/// | release | done where the lock was the holder's, and it is free now; else refused, with the holder |
-/// | holder | done, with the holder, 0 where the lock is free |
+/// | acquire | done if the lock was free or already the holder's; otherwise refused, with the holder |
+/// | release | done if the lock was the holder's, and it is free now; otherwise refused, with the holder |
+/// | holder | done, with the holder, or 0 if the lock is free |
 #[derive(Drop)]
 pub struct Locks<A: Allocator + Copy = Global> {
     holders: Table<A>,

@@ -1,16 +1,19 @@
-//! The examples. The exit status is 0 only where all could be printed, and each example that is data printed the expected output.
+//! The examples. The exit status is 0 only if all could be printed, and each example that is data printed the expected
+//! output.
 //!
 //! - `counter` drives a node from a user's program.
-//! - `client` has a client of three nodes, the first of which is cut off. `outage` has one that asks until it is answered, while
-//!   nodes stop.
-//! - `locks` is a user-defined object, a lock table. `lock_clients` has two clients of it, and `lock_threads` runs it on threads.
-//! - `lock_tools` is the lock table's own program, with the commands of `totem` and the words of `lock_vocabulary`. It runs where
-//!   the command line has words.
+//! - `client` has a client of three nodes, the first of which is cut off. `outage` has one that asks until it is
+//!   answered, while nodes stop.
+//! - `locks` is a user-defined object, a lock table. `lock_clients` has two clients of it, and `lock_threads` runs it
+//!   on threads.
+//! - `lock_tools` is the lock table's own program, with the commands of `totem` and the words of `lock_vocabulary`. It
+//!   runs where the command line has words.
 //! - `threads` has nodes and clients on threads, and a counter.
 //! - `terminal` shows which commands say how long they took.
 //! - `commands_agree` compares what commands report of the same scripts.
-//! - `data` runs what the program `totem` runs: scripts, sweeps, listings of frames, records, command lines. `command` runs a
-//!   command line, `expected` and `repeated` judge what it prints, `kind` has the kinds, and `hex_lines` reads bytes.
+//! - `data` runs what the program `totem` runs: scripts, sweeps, listings of frames, records, command lines. `command`
+//!   runs a command line, `expected` and `repeated` judge what it prints, `kind` has the kinds, and `hex_lines` reads
+//!   bytes.
 #![tactic(auto)]
 
 mod client;

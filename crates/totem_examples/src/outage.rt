@@ -1,14 +1,14 @@
-//! A client in a scenario that code controls, as a test has it: who hears whom, who times out and who stops. The client asks
-//! until it is answered, or until its tries are used up.
+//! A client in a scenario that code controls, as a test has it: who hears whom, who times out and who stops. The client
+//! asks until it is answered, or until its tries are used up.
 //!
 //! Three nodes keep a counter, to which the client adds 1 three times. It tries nodes 1 and 2.
 //!
-//! - Node 1 hears nobody, and node 2 calls for a ring. Node 1 waits in vain; nodes 2 and 3 are a majority and answer.
-//! - All hear each other, node 2 stops, and node 1 calls for a ring. It answers, in a ring with node 3, which knows of the first
-//!   call.
-//! - Node 1 hears nobody again, and node 2 has stopped, so nobody can answer. After three tries the client gives up, and its call
-//!   stays open. Then all hear each other, node 1 misses its token, and the client tries the call again. All these tries have one
-//!   number, so the counter that is read in the end is at 3.
+//! - Node 1 hears nobody, and node 2 calls for a ring. Node 1 gives no answer; nodes 2 and 3 are a majority and answer.
+//! - All hear each other, node 2 stops, and node 1 calls for a ring. It answers, in a ring with node 3, which knows of
+//!   the first call.
+//! - Node 1 hears nobody again, and node 2 has stopped, so nobody can answer. After three tries the client gives up,
+//!   and its call stays open. Then all hear each other, node 1 misses its token, and the client tries the call again.
+//!   All these tries have one number, so the counter that is read in the end is at 3.
 
 use crate::client::{client_of, count_of, cut_network};
 use std::io;
@@ -35,7 +35,9 @@ struct OutageSummary {
     read: u64,
 }
 
-/// Runs the scenario and prints its results.
+/// Runs the scenario and prints its results, or the fault if it is refused.
+///
+/// Errors: those of standard output.
 pub fn print_results<R: AllocGlobal + Print>(rt: &R) -> io::Result<()> {
     match call_through::<Counters>(rt.alloc()) {
         Ok(summary) => print_summary(rt, &summary),
@@ -97,7 +99,8 @@ fn again<P: Port>(client: &mut Client<P>) -> Result<u64, Fault> {
     Ok(count_of(&reply))
 }
 
-/// Makes the calls, and changes the network between them. At first the node `alone` hears nobody; the node `stopping` stops.
+/// Makes the calls, and changes the network between them. At first the node `alone` hears nobody; the node `stopping`
+/// stops.
 fn story_of<O: Object>(
     client: &mut Client<WorldPort<O>>,
     shared: &SharedNetwork<O>,

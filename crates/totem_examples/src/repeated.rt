@@ -1,9 +1,9 @@
 //! Examples that are data and run command lines several times.
 //!
 //! - The command lines of a `NAME.same` all print the same, and end well.
-//! - The one in the first line of a `NAME.broken` runs once for each number in the other lines. Its standard output takes this
-//!   number of bytes, and then fails. Where it takes fewer than the command writes, the exit status is 1. Nothing is written on
-//!   standard error.
+//! - The one in the first line of a `NAME.broken` runs once for each number in the other lines. Its standard output
+//!   takes this number of bytes, and then fails. If it takes fewer than the command writes, the exit status is 1.
+//!   Nothing is written on standard error.
 //!
 //! Formats: The command line
 
@@ -16,7 +16,9 @@ use std::sync::Wait;
 use std::thread::Threads;
 use std::time::Clock;
 
-/// Returns whether the command lines in a text, one a line, print the same, which isn't nothing, and end well.
+/// Returns whether the command lines in a text, one a line, all print the same output and end well.
+///
+/// The output must not be empty, and there must be two lines or more.
 pub fn print_the_same<R: Files + AllocGlobal + Threads + Wait + Clock + Sync>(
     rt: &R,
     text: &[u8],
@@ -50,8 +52,11 @@ fn ended_well(printed: &CommandOutput) -> bool {
     printed.status == 0 && printed.err.is_empty()
 }
 
-/// Returns whether a command line fails without a word wherever standard output takes less than it writes. The text has the command
-/// line, and below it the numbers of bytes that are taken.
+/// Returns whether a command line fails, and writes nothing on standard error, whenever standard output takes less than
+/// it writes.
+///
+/// The text has the command line, and below it one or more numbers of bytes that standard output takes. If it takes
+/// all, the command must end well.
 pub fn fail_silently<R: Files + AllocGlobal + Threads + Wait + Clock + Sync>(
     rt: &R,
     text: &[u8],
@@ -70,8 +75,8 @@ pub fn fail_silently<R: Files + AllocGlobal + Threads + Wait + Clock + Sync>(
     are_silent
 }
 
-/// Returns whether a command line that writes this number of bytes fails without a word where standard output takes fewer, and
-/// ends well where it takes all.
+/// Returns whether a command line that writes `whole` bytes fails, with nothing on standard error, if standard output
+/// takes fewer, and ends well if it takes all.
 fn is_silent<R: Files + AllocGlobal + Threads + Wait + Clock + Sync>(
     rt: &R,
     line: &str,

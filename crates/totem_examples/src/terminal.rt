@@ -1,4 +1,4 @@
-//! What `sweep` and `explore` write last where standard error is a terminal: how long they took.
+//! What `sweep` and `explore` write last if standard error is a terminal: how long they took.
 //!
 //! Formats: The command line
 
@@ -18,7 +18,10 @@ const EXPLORE: &str = "explore --nodes 3 --seeds 1..1 --events 20";
 /// A sweep of a file that isn't there.
 const FAULTY: &str = "sweep no_file.script";
 
-/// Prints which commands say how long they took.
+/// Runs a sweep, an exploration and a sweep that fails, and prints one line: whether each of the first two says how
+/// long it took, and whether the third says nothing.
+///
+/// Errors: those of standard output.
 pub fn print_results<R: Files + AllocGlobal + Print + Threads + Wait + Clock + Sync>(
     rt: &R,
 ) -> io::Result<()> {
@@ -39,8 +42,8 @@ fn written<R: Files + AllocGlobal + Threads + Wait + Clock + Sync>(rt: &R, line:
     progress
 }
 
-/// Returns whether the text ends with a line `took S.T s`, with S a number and T a digit, behind nothing or a progress that is
-/// cleared at its end.
+/// Returns whether the text ends with a line `took S.T s`, with S a number and T a digit. Before it there may be
+/// nothing but a progress that is cleared at its end.
 fn is_time(text: &[u8]) -> bool {
     let text = str::from_utf8(text).unwrap_or("");
     match text.split_once("took ") {

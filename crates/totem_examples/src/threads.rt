@@ -1,16 +1,17 @@
 //! Three nodes on threads, one of which has stopped, and two clients on threads that add to a counter.
 //!
-//! Client 1 tries node 1 first, and client 2 node 3, which has stopped. Where a node refuses the call or doesn't answer, the
-//! client passes on to the next one with the same call under the same number. Where none of them answers, it begins again. So
-//! each call takes effect once, whatever the threads' timing: nodes 1 and 2 give up node 3 and form a ring without it, and the
-//! one order has 20 calls.
+//! Client 1 tries node 1 first, and client 2 node 3, which has stopped. If a node refuses the call or doesn't answer,
+//! the client moves on to the next one with the same call under the same number. If none answers, it starts over. So
+//! each call takes effect once, whatever the threads' timing: nodes 1 and 2 give up node 3 and form a ring without it,
+//! and the one order has 20 calls.
 
 use std::io;
 use std::sync::Wait;
 use std::thread::Threads;
 use totem_ring::{Caller, Client, Counters, Fault, Fixed, Object, Port, run_callers};
 
-/// The most times that a client tries again a call that no node has answered: the nodes may still be forming their ring.
+/// The most times that a client tries again a call that no node has answered: the nodes may still be forming their
+/// ring.
 const TRIES: u64 = 1_000;
 
 /// A client that adds 1 to a counter ten times; `first` is the node that it tries first.
@@ -54,7 +55,11 @@ where
     Ok(count)
 }
 
-/// Prints the number of calls.
+/// Runs the scenario, and prints the number of calls in the one order, or the fault if it is refused.
+///
+/// Waits for the threads.
+///
+/// Errors: those of standard output.
 pub fn print_results<R: AllocGlobal + Print + Threads + Wait + Sync>(rt: &R) -> io::Result<()> {
     match count::<Counters, _>(rt, rt.alloc()) {
         Ok(calls) => {
