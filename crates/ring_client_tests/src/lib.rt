@@ -1,12 +1,17 @@
-//! Tests of what the contracts of the client don't state: that a port is asked once a call, worked runs over scripted
-//! ports, and that a refused request for memory is reported as such. They also check the refusals of a run of callers, which
-//! of several refusals comes, and that no caller makes a call before them. Clients of nodes are in `ring_world_port_tests`.
+//! Tests of what the contracts of the client don't state.
+//!
+//! A port is asked once a call, runs over scripted ports are worked through, and a refused request for memory is
+//! reported as such. They also check the refusals of a run of callers, which of several refusals comes, and that no
+//! caller makes a call before them. Three clients and nodes with small inboxes run on threads. Other clients of nodes
+//! are in `ring_world_port_tests`.
 #![tactic(auto)]
 
 #[cfg(test)]
 mod asked;
 #[cfg(test)]
 mod callers;
+#[cfg(test)]
+mod crowded;
 #[cfg(test)]
 mod memory;
 #[cfg(test)]

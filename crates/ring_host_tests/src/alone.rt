@@ -6,7 +6,7 @@
 ghost use Rattle.std.specs.Prelude.{◌≡◌};
 
 use crate::driven::{DrivenHost, done};
-use ring_base::{Fault, Fixed};
+use ring_base::{Fault, Fixed, Kind};
 use ring_host::{BookName, HostTicket, INBOX, Opening, Turn};
 use ring_object::Object;
 use ring_seat::TurnClock;
@@ -32,15 +32,33 @@ fn row<O: Object, K: BookName<O::Alloc>, W: Wait>(
     Ok((turn, length, driven.polled(rt, ticket)))
 }
 
-/// Submits a call before the first turn. Returns the states after turns 505 and 506, and then the node's clock.
+/// Returns the node's clock as it is, and as it is after the node has taken its token once more.
+///
+/// The retransmit timeout sends the token again, so that the inbox has two copies. The second clock is that after the
+/// turn that takes the first copy, the third that after the turn that ignores the second copy.
+fn clocks<O: Object, K: BookName<O::Alloc>, W: Wait>(
+    rt: &W,
+    driven: &mut DrivenHost<O, K>,
+) -> Result<[TurnClock; 3], Fault> {
+    let answered = driven.clock();
+    driven.pass(1, Kind::Retransmit);
+    driven.turns(rt, 1, 2)?;
+    let taken = driven.clock();
+    driven.turn(rt, 1)?;
+    Ok([answered, taken, driven.clock()])
+}
+
+/// Submits a call before the first turn.
+///
+/// Returns the states after turns 505 and 506, and the node's clocks from then on.
 fn both_rows<O: Object, K: BookName<O::Alloc>, W: Wait>(
     rt: &W,
     driven: &mut DrivenHost<O, K>,
-) -> Result<(Row, Row, TurnClock), Fault> {
+) -> Result<(Row, Row, [TurnClock; 3]), Fault> {
     let ticket = driven.submit(rt, 1, 7, 1)?;
     let before = row(rt, driven, &ticket, 505)?;
     let after = row(rt, driven, &ticket, 1)?;
-    Ok((before, after, driven.clock()))
+    Ok((before, after, clocks(rt, driven)?))
 }
 
 /// Runs `both_rows` on a host of one node at an opening.
@@ -48,7 +66,7 @@ fn opened<O: Object, K: BookName<O::Alloc>, W: Wait>(
     rt: &W,
     alloc: O::Alloc,
     opening: Opening<O>,
-) -> Result<(Row, Row, TurnClock), Fault>
+) -> Result<(Row, Row, [TurnClock; 3]), Fault>
     requires { opening ≡ K.name }
 {
     let mut driven = DrivenHost::<O, K>::new(alloc, opening, 1, INBOX)?;
@@ -58,7 +76,7 @@ fn opened<O: Object, K: BookName<O::Alloc>, W: Wait>(
 }
 
 /// Runs `opened` with counters.
-fn counted<W: Wait>(rt: &W, alloc: Global) -> Result<(Row, Row, TurnClock), Fault> {
+fn counted<W: Wait>(rt: &W, alloc: Global) -> Result<(Row, Row, [TurnClock; 3]), Fault> {
     let opening = Opening::<Counters>::new(alloc, Fixed::new(1)?)?;
     opened::<Counters, Brand, W>(rt, alloc, opening)
 }
@@ -118,18 +136,32 @@ fn told(length: u64) -> Turn {
     }
 }
 
-/// The turn that answers the call has taken a token. So all but the join timeout, which was due at turn 500, begin to count anew.
+/// The clock at which all timeouts but join begin to count anew.
+fn begun_anew(join: u16) -> TurnClock {
+    TurnClock {
+        join,
+        retransmit: 1000,
+        consensus: 8000,
+        loss: 32000,
+    }
+}
+
+/// The turn that answers the call has taken a token, so all timeouts but join begin to count anew.
+///
+/// The join timeout was due at turn 500. The token goes out again at turn 1,506. Turn 1,507 takes the first copy. Turn
+/// 1,508 ignores the second, and the timeouts go on to count.
 #[test]
 fn a_call_is_answered_at_turn_506(rt: HostRuntime) {
     let before = (told(0), 0, (None, true));
     let after = (told(1), 1, (Some(done(5)), true));
-    let clock = TurnClock {
-        join: 494,
-        retransmit: 1000,
-        consensus: 8000,
-        loss: 32000,
+    let ignored = TurnClock {
+        join: 492,
+        retransmit: 999,
+        consensus: 7999,
+        loss: 31999,
     };
-    assert!(rt; counted(&rt, rt.alloc()) == Ok((before, after, clock)));
+    let clocks = [begun_anew(494), begun_anew(493), ignored];
+    assert!(rt; counted(&rt, rt.alloc()) == Ok((before, after, clocks)));
 }
 
 #[test]

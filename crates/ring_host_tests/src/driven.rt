@@ -27,7 +27,7 @@ pub fn done(count: u8) -> Answer {
 }
 
 /// The call of this client and number that adds 5 to counter 0.
-fn add_of<A: Allocator + Copy>(alloc: A, client: u32, number: u64) -> Result<Call<A>, Fault>
+pub fn add_of<A: Allocator + Copy>(alloc: A, client: u32, number: u64) -> Result<Call<A>, Fault>
     ensures { IfOk result CallFits }
 {
     let call = Call::new(alloc, client, number, Counters::add(0, 5).as_slice())?;
@@ -59,6 +59,24 @@ impl<O: Object, K: BookName<O::Alloc>> DrivenHost<O, K> {
     {
         let guests = u16::from(4u8.saturating_sub(nodes));
         let (host, mut seats) = Host::<O, K>::with_inbox(alloc, opening, guests, inbox)?;
+        let (first, second, third, foreign_seat) = four_of(&host, &mut seats)?;
+        Ok(DrivenHost {
+            alloc,
+            host,
+            first,
+            second,
+            third,
+            foreign_seat,
+        })
+    }
+
+    /// Makes the host of the opening of two nodes that `K` names.
+    ///
+    /// Its inboxes have the size of those of a host that is given none.
+    pub fn new_of_two(alloc: O::Alloc, opening: Opening<O>) -> Result<DrivenHost<O, K>, Fault>
+        requires { opening ≡ K.name }
+    {
+        let (host, mut seats) = Host::<O, K>::new(alloc, opening, 2)?;
         let (first, second, third, foreign_seat) = four_of(&host, &mut seats)?;
         Ok(DrivenHost {
             alloc,
@@ -180,18 +198,30 @@ impl<O: Object + Send, K: BookName<O::Alloc> + Send + Sync> DrivenHost<O, K>
 where
     O::Alloc: Send + Sync,
 {
-    /// Runs node 1 on a thread until that ends.
-    pub fn run_first<W: Threads + Wait + Sync>(self, rt: &W) -> Result<(), Fault> {
+    /// Runs node 1 on a thread until that ends, and returns the number of places used in the book then.
+    ///
+    /// The list of its seat has its memory in `ample`.
+    pub fn run_first<W: Threads + Wait + Sync>(
+        self,
+        rt: &W,
+        ample: O::Alloc,
+    ) -> Result<u32, Fault> {
         let DrivenHost {
-            alloc,
+            alloc: _,
             host,
             first,
             second: _,
             third: _,
             foreign_seat: _,
         } = self;
-        let seats = alone_in(alloc, &host, first)?;
-        run_seats(rt, &host, seats)
+        let seats = alone_in(ample, &host, first)?;
+        let ran = run_seats(rt, &host, seats);
+        let places = host.read_book(rt, |book| book.places());
+        drop(host);
+        match ran {
+            Ok(()) => Ok(places),
+            Err(fault) => Err(fault),
+        }
     }
 }
 
@@ -289,11 +319,7 @@ fn turn<O: Object, K: BookName<O::Alloc>, W: Wait>(
 }
 
 /// Counts turns of the seat until the timeout of this kind is due at the next one.
-pub fn pass<O: Object, K: BookName<O::Alloc>>(
-    host: &Host<O, K>,
-    seat: &mut Seat<O::Alloc>,
-    kind: Kind,
-)
+fn pass<O: Object, K: BookName<O::Alloc>>(host: &Host<O, K>, seat: &mut Seat<O::Alloc>, kind: Kind)
     requires { IsAt host.now seat.old }
     ensures { IsAt host.now seat.new }
 {

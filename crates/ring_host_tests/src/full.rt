@@ -126,7 +126,7 @@ where
     let mut driven = DrivenHost::<O, K>::new(alloc, opening, 2, INBOX)?;
     let shown = seen_full(rt, &mut driven);
     let (driven, shown) = pair_result(driven, shown)?;
-    Ok((shown, driven.run_first(rt).is_ok()))
+    Ok((shown, driven.run_first(rt, alloc).is_ok()))
 }
 
 /// Runs `opened` with counters.

@@ -1,13 +1,14 @@
 //! Nodes work at the same time: a thread that is held up with its node's lock doesn't hold up another node.
 //!
-//! Rules: The book and the threads 20 and 29
+//! A thread that is held up once its line is entered has sent its frames.
+//!
+//! Rules: The book and the threads 20, 21 and 29
 
-ghost use Rattle.std.specs.Prelude.{◌≡◌, All, IfOk};
+ghost use Rattle.std.specs.Prelude.{◌≡◌, All};
 ghost use Rattle.ring_seat.specs.Seats.{IsAt};
 
-use crate::driven::{last_seat, pass};
-use ring_base::{Fault, Fixed, Kind, Proc};
-use ring_host::{BookName, Gate, GatePlace, Host, Opening, Seat};
+use ring_base::{Fault, Fixed, Proc};
+use ring_host::{Book, BookName, Cause, Gate, GatePlace, Host, Opening, Seat};
 use ring_object::Object;
 use ring_things::Counters;
 use std::alloc::Global;
@@ -17,45 +18,77 @@ use std::sync::atomic::{AtomicBool, Ordering};
 use std::thread;
 use std::thread::Threads;
 
-/// The most looks of the gate. Each yields, so node 2's thread gets a processor meanwhile.
-const LOOKS: u32 = 1_000_000;
+/// The most looks of the gate at a flag: more than a busy machine needs.
+///
+/// Each yields, so node 2's thread gets a processor meanwhile.
+const LOOKS: u32 = 30_000_000;
 
 /// The most looks of the host's caller at the gate: longer than the gate looks.
 const WATCHES: u64 = 1_000_000_000;
 
-/// Holds up node 1 with its lock in hand, the first time that it has it, until node 2 enters a line, for at most `LOOKS` looks.
+/// Holds up node 1 twice, each time for at most `LOOKS` looks.
+///
+/// The first hold is with its lock in hand, the first time that it has it, until node 2 enters a line. The second is
+/// behind its first line, until node 2 has taken a frame of it.
 #[derive(Drop)]
 struct HoldingGate {
+    /// Whether node 1 was held up with its lock.
+    was_held: AtomicBool,
     /// Whether node 2 has entered a line since node 1 was held up.
     has_entered: AtomicBool,
-    /// Whether node 1 is held up no more, and whether that was because node 2 had entered a line.
-    is_over: AtomicBool,
+    /// Whether node 1 was held up no more because node 2 had entered a line.
     has_opened: AtomicBool,
+    /// Whether node 1 has entered its first line.
+    is_out: AtomicBool,
+    /// Whether node 2 has taken a frame of node 1 since.
+    has_taken: AtomicBool,
+    /// Whether node 1 is held up no more.
+    is_over: AtomicBool,
+}
+
+/// Looks at the flag until it is set, at most `LOOKS` times, and returns whether it is.
+fn await_flag(flag: &AtomicBool) -> bool {
+    for _ in 0..LOOKS {
+        if flag.load(Ordering::SeqCst) {
+            return true;
+        }
+        thread::yield_now();
+    }
+    false
 }
 
 impl HoldingGate {
+    /// Returns a gate that has not held up node 1 yet.
     fn new() -> HoldingGate {
         HoldingGate {
+            was_held: AtomicBool::new(false),
             has_entered: AtomicBool::new(false),
-            is_over: AtomicBool::new(false),
             has_opened: AtomicBool::new(false),
+            is_out: AtomicBool::new(false),
+            has_taken: AtomicBool::new(false),
+            is_over: AtomicBool::new(false),
         }
     }
 
-    /// Looks until node 2 enters a line. Afterwards node 1 is held up no more.
+    /// Looks until node 2 enters a line, the first time.
     fn hold(&self) {
-        if self.is_over.load(Ordering::SeqCst) {
+        if self.was_held.swap(true, Ordering::SeqCst) {
             return;
         }
         // Lines that node 2 entered before show nothing.
         self.has_entered.store(false, Ordering::SeqCst);
-        for _ in 0..LOOKS {
-            if self.has_entered.load(Ordering::SeqCst) {
-                self.has_opened.store(true, Ordering::SeqCst);
-                break;
-            }
-            thread::yield_now();
+        let has_opened = await_flag(&self.has_entered);
+        self.has_opened.store(has_opened, Ordering::SeqCst);
+    }
+
+    /// Looks until node 2 has taken a frame of node 1, the first time.
+    ///
+    /// Afterwards node 1 is held up no more.
+    fn hold_behind_line(&self) {
+        if self.is_out.swap(true, Ordering::SeqCst) {
+            return;
         }
+        let _ = await_flag(&self.has_taken);
         self.is_over.store(true, Ordering::SeqCst);
     }
 }
@@ -64,24 +97,56 @@ impl Gate for HoldingGate {
     fn at(&self, node: Proc, place: GatePlace) {
         match (node.number(), place) {
             (1, GatePlace::Held) => self.hold(),
+            (1, GatePlace::Entered) => self.hold_behind_line(),
             (2, GatePlace::Entered) => self.has_entered.store(true, Ordering::SeqCst),
             _ => {}
         }
     }
 }
 
+/// Whether the line of this number is of node 1.
+fn is_of_first<O: Object, K: BookName<O::Alloc>>(book: &Book<O, K>, line: u32) -> bool {
+    match book.line(line) {
+        Some(line) => line.node().number() == 1,
+        None => false,
+    }
+}
+
+/// Whether node 2 has taken a frame of node 1.
+fn has_taken<O: Object, K: BookName<O::Alloc>>(book: &Book<O, K>) -> bool {
+    for number in 0..book.places() {
+        let Some(line) = book.line(number) else {
+            return false;
+        };
+        if let Cause::Delivered(at) = line.cause() {
+            if line.node().number() == 2 && is_of_first(book, at.line) {
+                return true;
+            }
+        }
+    }
+    false
+}
+
+/// Looks into the book while node 1 is held up behind its line, until node 2 has taken a frame of it.
+///
 /// Closes the host once the gate holds node 1 no more.
-fn watch<O: Object, K: BookName<O::Alloc>>(host: &Host<O, K>, gate: &HoldingGate) {
+fn watch<O: Object, K: BookName<O::Alloc>, W: Wait>(rt: &W, host: &Host<O, K>, gate: &HoldingGate) {
     for _ in 0..WATCHES {
         if gate.is_over.load(Ordering::SeqCst) {
             break;
+        }
+        if gate.is_out.load(Ordering::SeqCst) && host.read_book(rt, |book| has_taken(book)) {
+            gate.has_taken.store(true, Ordering::SeqCst);
         }
         thread::yield_now();
     }
     host.close();
 }
 
-/// Runs the nodes until the gate holds node 1 no more. Returns whether node 2 entered a line while node 1 was held up.
+/// Runs the nodes until the gate holds node 1 no more.
+///
+/// Returns whether node 2 entered a line while node 1 was held up with its lock, and took a frame while it was held up
+/// behind its line.
 fn run<O: Object + Send, K: BookName<O::Alloc> + Send + Sync, W: Threads + Wait + Sync>(
     rt: &W,
     host: &Host<O, K>,
@@ -98,7 +163,7 @@ where
         move |scope| -> Result<(), Fault>
             requires { All (IsAt host.now) seats.items }
         {
-            if scope.spawn(move || watch(host, gate)).is_err() {
+            if scope.spawn(move || watch(rt, host, gate)).is_err() {
                 host.close();
             }
             let mut seats = seats;
@@ -107,57 +172,10 @@ where
             ran
         },
     );
-    ran.is_ok() && gate.has_opened.load(Ordering::SeqCst)
+    ran.is_ok() && gate.has_opened.load(Ordering::SeqCst) && gate.has_taken.load(Ordering::SeqCst)
 }
 
-/// Removes and returns the last of the host's seats, with the join timeout due at its next turn.
-fn due_seat<O: Object, K: BookName<O::Alloc>>(
-    host: &Host<O, K>,
-    seats: &mut Vec<Seat<O::Alloc>, O::Alloc>,
-) -> Result<Seat<O::Alloc>, Fault>
-    requires { All (IsAt host.now) seats.old.items }
-    ensures seats { All (IsAt host.now) seats.new.items }
-    ensures seat { IfOk result (IsAt host.now) }
-{
-    let mut seat = last_seat(host, seats)?;
-    pass(host, &mut seat, Kind::Join);
-    Ok(seat)
-}
-
-/// Returns the own seats of both nodes, each of which enters a line at its first turn.
-fn due_seats<O: Object, K: BookName<O::Alloc>>(
-    alloc: O::Alloc,
-    host: &Host<O, K>,
-    seats: &mut Vec<Seat<O::Alloc>, O::Alloc>,
-) -> Result<Vec<Seat<O::Alloc>, O::Alloc>, Fault>
-    requires { All (IsAt host.now) seats.old.items }
-    ensures { IfOk result (λ both. All (IsAt host.now) both.items) }
-{
-    let mut both = Vec::new(alloc);
-    let second = due_seat(host, seats)?;
-    let first = due_seat(host, seats)?;
-    both.push(first)?;
-    both.push(second)?;
-    Ok(both)
-}
-
-/// Runs two nodes of a host, with these seats, under the holding gate.
-fn held_up<O: Object + Send, K: BookName<O::Alloc> + Send + Sync, W: Threads + Wait + Sync>(
-    rt: &W,
-    alloc: O::Alloc,
-    host: &Host<O, K>,
-    seats: &mut Vec<Seat<O::Alloc>, O::Alloc>,
-) -> Result<bool, Fault>
-where
-    O::Alloc: Send + Sync,
-    requires { All (IsAt host.now) seats.old.items }
-{
-    let both = due_seats(alloc, host, seats)?;
-    let gate = HoldingGate::new();
-    Ok(run(rt, host, both, &gate))
-}
-
-/// Runs `held_up` at an opening.
+/// Runs both nodes of a host from its opening, under the holding gate.
 fn opened<O: Object + Send, K: BookName<O::Alloc> + Send + Sync, W: Threads + Wait + Sync>(
     rt: &W,
     alloc: O::Alloc,
@@ -167,11 +185,11 @@ where
     O::Alloc: Send + Sync,
     requires { opening ≡ K.name }
 {
-    let (host, mut seats) = Host::<O, K>::new(alloc, opening, 0)?;
-    let is_working = held_up(rt, alloc, &host, &mut seats);
+    let (host, seats) = Host::<O, K>::new(alloc, opening, 0)?;
+    let gate = HoldingGate::new();
+    let is_working = run(rt, &host, seats, &gate);
     drop(host);
-    drop(seats);
-    is_working
+    Ok(is_working)
 }
 
 /// Runs `opened` with counters.

@@ -1,6 +1,7 @@
 //! Copies that a full inbox drops.
 //!
 //! Rules: The book and the threads 23
+//! Formats: small inboxes
 
 ghost use Rattle.std.specs.Prelude.{◌≡◌, ◌≤◌};
 
@@ -20,10 +21,8 @@ fn dropped<O: Object, K: BookName<O::Alloc>, W: Wait>(
     rt: &W,
     driven: &mut DrivenHost<O, K>,
 ) -> Result<(u32, u32), Fault> {
-    driven.pass(1, Kind::Join);
-    let at_500 = driven.turn(rt, 1)?;
-    driven.pass(1, Kind::Join);
-    let at_1000 = driven.turn(rt, 1)?;
+    let at_500 = driven.turns(rt, 1, 500)?;
+    let at_1000 = driven.turns(rt, 1, 500)?;
     Ok((at_500.dropped, at_1000.dropped))
 }
 
