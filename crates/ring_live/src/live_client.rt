@@ -79,7 +79,7 @@ pub(crate) fn run_live_client<O: Object, K: BookName<O::Alloc>, W: Wait>(
 )
     requires { HasSeats host.now live_client.old }
 {
-    let counter = try_call(rt, alloc, host, calls, running, &mut *live_client);
+    let counter = add_and_read_counter(rt, alloc, host, calls, running, &mut *live_client);
     live_client.counter = counter;
     if running.fetch_sub(1, Ordering::SeqCst) == 1 {
         host.close();
@@ -89,7 +89,7 @@ pub(crate) fn run_live_client<O: Object, K: BookName<O::Alloc>, W: Wait>(
 /// Makes the client's calls.
 ///
 /// Returns the counter that client 1 read, and 0 for any other client.
-fn try_call<O: Object, K: BookName<O::Alloc>, W: Wait>(
+fn add_and_read_counter<O: Object, K: BookName<O::Alloc>, W: Wait>(
     rt: &W,
     alloc: O::Alloc,
     host: &Host<O, K>,

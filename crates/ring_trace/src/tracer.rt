@@ -727,7 +727,7 @@ impl<O: Object> Tracer<O> {
     /// Prints what follows the events: the lines of the whole run, the picture, and the parts of a page around it.
     fn print_end<W: Write>(&self, out: &mut W) -> Result<(), Failure> {
         self.print_last_lines(out)?;
-        self.printer.print_page_before_picture(out)?;
+        self.printer.print_page_after_lines(out)?;
         if self.printer.format.has_picture() {
             self.trace_picture
                 .print(out, self.events.min(self.selection.to))?;

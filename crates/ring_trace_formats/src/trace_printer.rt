@@ -13,7 +13,7 @@ use ring_failure::{Failure, output_result};
 use ring_payload::Call;
 use ring_session::Answer;
 use ring_trace_json::{EventDetails, JsonPrinter, TurnValue};
-use ring_trace_page::{write_page_after_picture, write_page_before_picture, write_page_head};
+use ring_trace_page::{write_page_after_lines, write_page_after_picture, write_page_head};
 use ring_trace_words::{
     Change, Fold, NodeTotals, RunCounts, Told, TraceVocabulary, TracedEvent, WaitReason,
     WaitingCall,
@@ -279,13 +279,13 @@ impl TracePrinter {
     /// Errors: `Output` if `out` fails. How much has been written is then unspecified.
     ///
     /// Formats: The command line
-    pub fn print_page_before_picture<W: Write>(self, out: &mut W) -> Result<(), Failure>
+    pub fn print_page_after_lines<W: Write>(self, out: &mut W) -> Result<(), Failure>
         ensures picture { self.format ≡ TraceFormat.Svg → out.new ≡ out.old }
         ensures failed { IfErr result IsOutputOrMemory }
     {
         match self.format {
             TraceFormat::Text | TraceFormat::Json | TraceFormat::Svg => Ok(()),
-            TraceFormat::Html => output_result(write_page_before_picture(out)),
+            TraceFormat::Html => output_result(write_page_after_lines(out)),
         }
     }
 

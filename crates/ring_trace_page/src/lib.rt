@@ -26,7 +26,7 @@ pub fn write_page_head<W: Write>(out: &mut W) -> io::Result<()> {
 /// Errors: any error of `out`. How much has been written is then unspecified.
 ///
 /// Formats: The command line
-pub fn write_page_before_picture<W: Write>(out: &mut W) -> io::Result<()> {
+pub fn write_page_after_lines<W: Write>(out: &mut W) -> io::Result<()> {
     out.write_all(page_text::MIDDLE.as_bytes())
 }
 
