@@ -323,9 +323,9 @@ impl<O: Object, K: BookName<O::Alloc>> Book<O, K> {
         self.lines.get(number as usize)
     }
 
-    /// Appends the encoding of the frame at `at` to `out`, at most 8,192 bytes, whoever its receivers are.
+    /// Appends the encoding of the frame at `at` to `out`, at most 8,192 bytes.
     ///
-    /// The book is unchanged.
+    /// The receivers don't matter. The book is unchanged.
     ///
     /// Errors: `Stranger` if there is no such frame. Otherwise `Memory` if an allocation fails. Nothing is then
     /// appended.

@@ -132,9 +132,10 @@ pub fn safe_outputs_law<A: Allocator + Copy>()
 
 /// States the local facts of each processor in every run from a formed ring.
 ///
-/// `ring_core_proof::local_law` states the same facts from the opening.
+/// They are those of `ring_core_proof::local_law`, which states them from the opening: which rings and messages a
+/// core has, the order of its visits, and that its reports are true.
 ///
-/// Rules: Rings and states 2 to 7 and 14
+/// Rules: Rings and states 2 to 7 and 14; Token and window 1, 4 and 6; The commit token 2 and 3
 pub fn formed_facts_law<A: Allocator + Copy>()
     ensures { (n i : ℕ) (events : List (RingEvent A)) → 1 ≤ i → i ≤ n → LocalFacts ((run_formed n events).cores i) }
 {}

@@ -40,12 +40,12 @@ ghost use Rattle.ring_core_proof.specs.PackedCalls.{around_head, two_and_head, f
 ghost use Rattle.ring_core_proof.specs.PackedCalls.{packed_message, with_pack, wrapped_pack, handed_on, piece};
 ghost use Rattle.ring_core_proof.specs.Recoveries.{with_four, with_three, with_all, with_ends, past_gap, mixed};
 
-/// States an example of a formed ring of two: they lose a message once, request it and send it again.
+/// States an example of a formed ring of two: a message is lost once, requested, and sent again.
 ///
-/// Then they agree on the message and report it as safe. The example also has retransmit timeouts, and timeouts that
-/// aren't events of a formed ring.
+/// Then both agree on the message and report it as safe. In two more runs, a retransmit timeout sends the first token
+/// again, and the other three timeouts, which aren't events of a formed ring, have no outputs.
 ///
-/// Rules: Rings and states 14; Token and window 7, 8 and 10
+/// Rules: Rings and states 14; Timeouts 3; Token and window 7, 8 and 10
 /// Formats: formed ring of two
 pub fn formed_ring_of_two()
     ensures loss { (run_formed 2 loss_events).outs ≡ loss_outs }

@@ -192,9 +192,9 @@ impl<O: Object> Driver<O> {
     /// timeout.
     ///
     /// The order is join, retransmit, consensus, loss. The step's outputs replace those of the step before. Returns
-    /// `None`, without a step, if no timeout is due: so call it again with the same time until then. The first call
-    /// opens the clock. An earlier time than the latest one is treated as the latest one, at which all other steps are
-    /// noted too.
+    /// `None`, without a step, if no timeout is due: so call it with the same time until it returns `None`.
+    /// The first call opens the clock. An earlier time than the latest one counts as the latest one. All other steps are
+    /// also timed by the latest time passed in.
     ///
     /// Errors: `Stopped` if the node had already stopped. `Memory` if an allocation fails; the node has then stopped
     /// for good. In both cases the timeout is used up, and the outputs of the step before can still be taken.
@@ -325,7 +325,7 @@ impl<O: Object> Driver<O> {
 
     /// Returns whether the last step installed a ring.
     ///
-    /// [`node`](Driver::node) has its name and its members. A refused step doesn't count. Returns false before the
+    /// [`node`](Driver::node) returns that ring's name and members. A refused step doesn't count. Returns false before the
     /// first step.
     ///
     /// Rules: Outputs 1

@@ -173,7 +173,10 @@ fn encode_status(state: State, ring: RingId, committed: u64, log: u64, trimmed: 
     bytes
 }
 
-/// Writes a record `I` with the counts of a node, each in 8 bytes, in this order.
+/// Writes a record `I` with the counts of a node, each as 8 bytes, big-endian.
+///
+/// `numbers` must be in the order of the format, as `NodeCounts::numbers` of `ring_counts` returns them; this isn't
+/// checked.
 ///
 /// Errors: any error of `out`. How much has been written is then unspecified.
 ///

@@ -412,7 +412,7 @@ impl<A: Allocator + Copy + Drop> Replication<A> {
 
     /// Records in the history that the payloads `due` are handed to the core, in this order.
     ///
-    /// Nothing else changes. Does not allocate.
+    /// No effect at run time: only contracts see the history. Nothing else changes. Does not allocate.
     ///
     /// Rules: The replicated log 1 and 2
     pub fn record_sends(&mut self, due: &Vec<Payload<A>, A>)
@@ -423,8 +423,8 @@ impl<A: Allocator + Copy + Drop> Replication<A> {
 
     /// Records in the history, if `is_handed_over`, that the call is handed to the core.
     ///
-    /// `is_handed_over` says whether the core is Operational in a ring that the node has adopted. Nothing else changes.
-    /// Does not allocate.
+    /// No effect at run time: only contracts see the history. `is_handed_over` must say whether the core is Operational
+    /// in a ring that the node has adopted; this isn't checked. Nothing else changes. Does not allocate.
     ///
     /// Rules: The replicated log 10
     pub fn record_call(&mut self, call: &Call<A>, is_handed_over: bool)

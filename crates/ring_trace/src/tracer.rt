@@ -77,7 +77,9 @@ pub(crate) struct Tracer<O: Object> {
 impl<O: Object> Tracer<O> {
     /// Creates the trace of a script, with all nodes at their opening and nothing reported.
     ///
-    /// `printer` has the format, and `selection` the events to report.
+    /// Only the group of `script` is read: pass the same script to [`trace_run`](Tracer::trace_run), which carries out
+    /// its lines. `printer` sets the format, `trace_vocabulary` the words for operations and replies, and `selection`
+    /// the events to report. `Selection::fault_of` must find no fault in the selection; this isn't checked.
     ///
     /// Errors: `Memory` if an allocation fails.
     ///

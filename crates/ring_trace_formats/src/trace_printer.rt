@@ -74,10 +74,10 @@ impl TracePrinter {
         }
     }
 
-    /// Prints what comes before all other lines: for `Json` and `Html` the line of the nodes, and for `Html` the page's
-    /// first part before it.
+    /// Prints what comes before all other lines: for `Json` the line of the nodes, and for `Html` the same after the
+    /// first part of the page.
     ///
-    /// For `Text` nothing is printed.
+    /// For `Text` and `Svg` nothing is printed.
     ///
     /// Errors: as for [`print_event`](TracePrinter::print_event).
     ///

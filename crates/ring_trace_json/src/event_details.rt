@@ -124,8 +124,9 @@ pub struct SendValue {
 }
 
 impl SendValue {
-    /// Returns the value of frame `frame`, sent to the nodes `to`, with its line in a listing, `says`, and the names of
-    /// the calls that it carries.
+    /// Returns the value of frame number `frame`, sent to the nodes `to`.
+    ///
+    /// `says` is the frame's line in a listing, and `calls` are the names of the calls that it carries.
     ///
     /// Errors: `Memory` if an allocation fails.
     ///

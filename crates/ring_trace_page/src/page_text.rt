@@ -49,6 +49,8 @@ button.link:hover { text-decoration: underline; }
 #picture_box { padding: 4px 12px; border-bottom: 1px solid var(--line); }
 #picture { position: relative; max-height: 34vh; overflow: auto; contain: content; cursor: pointer; }
 #picture svg { display: block; max-width: none; }
+/* One pixel for each point of the picture: the script goes by its columns. */
+#picture > svg { width: 1200px; height: auto; }
 .cursor { position: absolute; background: #1155cc2e; border: 1px solid #1155cc; pointer-events: none; }
 main {
   display: grid; grid-template-columns: minmax(300px, 5fr) 8fr; grid-template-rows: 100%; gap: 8px; flex: 1 0 320px; min-height: 0;

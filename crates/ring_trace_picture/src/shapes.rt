@@ -30,7 +30,7 @@ pub(crate) fn write_head<W: Write>(out: &mut W, canvas: Canvas) -> io::Result<()
     let (width, height) = (canvas.width(), canvas.height());
     writeln!(
         out,
-        "<svg xmlns=\"http://www.w3.org/2000/svg\" viewBox=\"0 0 {width} {height}\" width=\"{width}\" height=\"{height}\" \
+        "<svg xmlns=\"http://www.w3.org/2000/svg\" viewBox=\"0 0 {width} {height}\" width=\"{width}pt\" height=\"{height}pt\" \
          font-family=\"sans-serif\" font-size=\"10\">"
     )?;
     writeln!(

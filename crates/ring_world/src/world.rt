@@ -118,9 +118,9 @@ impl<O: Object> World<O> {
         })
     }
 
-    /// Returns a copy with the same events, history and nodes, which runs independently of this world.
+    /// Returns a copy with the same events, history, reports and nodes, which runs independently of this world.
     ///
-    /// So a caller can try events on the copy.
+    /// Each node's object is restored from a snapshot of the original's. A caller can use the copy to try out events.
     ///
     /// Errors: `Memory` if an allocation fails; this world is unchanged.
     ///
@@ -145,7 +145,7 @@ impl<O: Object> World<O> {
 
     /// Runs the events in order, after those that were run before.
     ///
-    /// The calls in them must be within the limits of a call, as every one from `Call::new` is. An event is done whole
+    /// The calls in them must be within the limits of a call, as every one from `Call::new` is. An event is done completely
     /// or not at all, since room for it is made before its step.
     ///
     /// Ok doesn't mean that no allocation failed in a step. If one did, the node has stopped for good, and `events` has

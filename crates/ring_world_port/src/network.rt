@@ -86,7 +86,7 @@ impl Model for WorldTicket {
 impl<O: Object> Network<O> {
     /// Creates the network of a world, in which all nodes hear each other and no timeout has been counted.
     ///
-    /// Of each frame sent so far the copies to all receivers are open; turns deliver or lose them.
+    /// A copy of each frame sent so far is open for each of its receivers; turns deliver or lose them.
     ///
     /// Rules: Clients 8
     /// Formats: Pump
@@ -130,13 +130,13 @@ impl<O: Object> Network<O> {
     /// After Ok the node has taken it, and the world has the event. The open copies, the group and the count of
     /// timeouts are unchanged.
     ///
-    /// Errors with nothing changed, in this order: `NotMember` if the world has no such node. `OpTooLong` if the
+    /// Errors that change nothing, in this order: `NotMember` if the world has no such node. `OpTooLong` if the
     /// operation has more than 1,024 bytes. `NumberGap` if the call's number is 0. `Memory` if an allocation for the
     /// call's copy or the event fails.
     ///
-    /// Errors of the node, which is then unchanged, and which the world reports: `Stopped` if it has stopped.
-    /// `PendingFull` if 64 of its tickets are unanswered or 2^62 have been given. `Memory` if an allocation of the node
-    /// fails.
+    /// Errors of the node, which is then unchanged; the world reports the refusal. `Stopped` if the node has stopped,
+    /// and `PendingFull` if 64 of its tickets are unanswered or 2^62 have been given: the world then has the event,
+    /// too. `Memory` if an allocation of the node fails: the world then doesn't have the event.
     ///
     /// Rules: Clients 8; The replicated log 13
     pub fn submit(&mut self, node: Proc, call: &Call<O::Alloc>) -> Result<(), Fault>
