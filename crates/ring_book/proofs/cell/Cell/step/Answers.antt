@@ -23,6 +23,9 @@ step_with_outputs-requires g c = record {
 pub push_reserved-requires : goal.push_reserved-requires
 push_reserved-requires g c = (c.self.invariant.free c.if-self.false, tt)
 
+pub push_reserved-requires-in-Memory : goal.push_reserved-requires-in-Memory
+push_reserved-requires-in-Memory g c = (c.self.invariant.free c.if-self.false, tt)
+
 pub invariant_of-self : goal.invariant_of-self
 invariant_of-self g c =
     let m = node_machine g.O.Object.sequential g.K.BookName.name.group in
