@@ -11,8 +11,8 @@ returns-in_ok-done-in-Some-clause-clock g c =
     record {
       place = c.take_task.new.place;
       task = c.in-Some.task;
-      fits = subst (λ (x : Option (Task g.row.O-Alloc.Denot)). IfSome x (TaskFits c.take_task.new.place)) c.in-Some.is c.in_ok-take_task.ensures.fits;
-      timeout = task_due c.args.due c.take_task.result c.in-Some.task (c.in_ok-take_task.was ∙ ap task_kind c.in-Some.is) c.take_task.ensures.due c.take_task.ensures.item;
+      fits = subst (λ (x : Option (Task g.row.O-Alloc.Denot)). IfSome x (TaskFits c.take_task.new.place)) c.in-Some.is c.in_ok-task.ensures.fits;
+      timeout = task_due c.args.due c.take_task.result c.in-Some.task (c.in_ok-task.was ∙ ap task_kind c.in-Some.is) c.take_task.ensures.due c.take_task.ensures.item;
       did = c.in_ok-done-in-Some.ensures.done;
       noted = c.in_ok-done-in-Some.ensures.clock;
     }
@@ -20,4 +20,4 @@ returns-in_ok-done-in-Some-clause-clock g c =
 pub returns-in-None-clause-clock : goal.returns-in-None-clause-clock
 returns-in-None-clause-clock g c =
     let task_kind : Option (Task g.row.O-Alloc.Denot) → Result (Option (Task g.row.O-Alloc.Denot)) Fault = λ x. Ok x in
-    (none_was_due c.args.due c.take_task.result (c.in_ok-take_task.was ∙ ap task_kind c.in-None.is) c.take_task.ensures.due, refl)
+    (none_was_due c.args.due c.take_task.result (c.in_ok-task.was ∙ ap task_kind c.in-None.is) c.take_task.ensures.due, refl)
