@@ -3,6 +3,6 @@ use Rattle.ring_sweep.proofs.variant_script.print_with_line.Goals as goal
 
 pub returns-clause-printed : goal.returns-clause-printed
 returns-clause-printed g c =
-    more_at_ok c.print_text.result _ _ (λ last. then_more _ _ _ c.args.put_in.now.injection
-    (more_before _ _ _ c.args.put_in.now.injection c.in_ok-print_bytes.ensures.printed c.in_ok-print_line.ensures.printed) last)
+    more_at_ok c.print_text.result _ _ (λ last. then_more _ _ _ c.args.added_lines.now.injection
+    (more_before _ _ _ c.args.added_lines.now.injection c.in_ok-print_bytes.ensures.printed c.in_ok-print_line.ensures.printed) last)
     c.print_text.ensures.printed
