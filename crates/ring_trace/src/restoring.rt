@@ -7,11 +7,41 @@ ghost use Rattle.ring_base.specs.declared.fault.Fault.TheVariants.{Memory};
 ghost use Rattle.ring_wire.specs.IsFrameEncoding.{IsFrameEncoding};
 ghost use Rattle.ring_trace.specs.Restoring.{IsRestoredBy};
 
-use ring_base::Fault;
+use crate::sent_frames::SentFrame;
+use ring_base::{Fault, Proc};
+use ring_console::World;
 use ring_node::{Input, Node};
 use ring_object::Object;
 use ring_wire::{Frame, decode_frame};
 use std::alloc::Allocator;
+
+/// Returns the number of places that the snapshot replaces that the node's step on this frame of the world restores.
+///
+/// Returns `None` if the step restores none. The world is unchanged.
+///
+/// Errors: `Memory` if an allocation fails.
+///
+/// Formats: The command line
+pub(crate) fn restored_in<O: Object>(
+    alloc: O::Alloc,
+    world: &World<O>,
+    node: Proc,
+    frame: SentFrame,
+) -> Result<Option<u64>, Fault> {
+    let bytes = world.sent_text().get(frame.begin..frame.end).unwrap_or(&[]);
+    restored_at(alloc, world, node, bytes)
+}
+
+/// Returns what the step of the world's node on the frame that these bytes encode restores.
+fn restored_at<O: Object>(
+    alloc: O::Alloc,
+    world: &World<O>,
+    node: Proc,
+    bytes: &[u8],
+) -> Result<Option<u64>, Fault> {
+    let node = world.fixed().proc(node.number())?;
+    restored_by(alloc, world.node(node), bytes)
+}
 
 /// Returns the number of places that the snapshot replaces that a node's step on a frame restores.
 ///
@@ -21,7 +51,7 @@ use std::alloc::Allocator;
 /// Errors: `Memory` if an allocation fails, and also if the bytes don't encode a frame.
 ///
 /// Formats: The command line
-pub(crate) fn restored_by<O: Object>(
+fn restored_by<O: Object>(
     alloc: O::Alloc,
     node: &Node<O>,
     bytes: &[u8],

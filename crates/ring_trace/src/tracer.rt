@@ -2,21 +2,21 @@
 //!
 //! Formats: The command line
 
-ghost use Rattle.std.specs.Prelude.{◌≡◌, ℕ, List, drop, Some, None, OnOk, IfOk};
+ghost use Rattle.std.specs.Prelude.{◌≡◌, ℕ, List, drop, Some, None, OnOk, IfOk, slice_get};
 ghost use Rattle.std.specs.Io.KnownBytes.{Appends};
 ghost use Rattle.ring_console.specs.Worlds.{text_of, world_of};
 ghost use Rattle.ring_script.specs.Fits.{IsFit, AreFit};
-ghost use Rattle.ring_console.specs.Running.{run_opening, IsLineDone, IsPumpDone, AreLinesDone};
+ghost use Rattle.ring_console.specs.Running.{run_opening, IsLineDone, IsPumpDone, IsTurnDone, AreLinesDone};
 
 use crate::counting::{CountedEvent, count_event};
 use crate::details::{input_of_line, input_of_turn, send_values};
 use crate::event_subject::{EventSubject, event_subject_of, write_event_description, write_turn};
 use crate::node_view::NodeView;
 use crate::places::print_places;
-use crate::restoring::restored_by;
+use crate::restoring::restored_in;
 use crate::selection::{Selection, SelectionFault};
 use crate::sent_calls::{are_calls_sent, write_frames};
-use crate::sent_frames::{SentFrames, add_sent_frames};
+use crate::sent_frames::{SentFrame, SentFrames, add_sent_frames};
 use crate::sides::sides_of;
 use ring_base::{Fault, Fixed, PROCESSORS, Proc, ProcSet, State};
 use ring_console::{Failure, Groups, OpenCopy, Script, ScriptLine, ScriptRun};
@@ -300,22 +300,24 @@ impl<O: Object> Tracer<O> {
             let Some(open_copy) = self.run.first_open_copy() else {
                 return Ok(());
             };
-            let is_delivered = self.run.is_connected(open_copy.sender, open_copy.receiver);
-            self.foresee_turn(open_copy, is_delivered)?;
-            self.run.run_line_silently(ScriptLine::Pump { turns: 1 })?;
-            self.report_copy(open_copy, is_delivered, out)?;
+            self.make_turn(open_copy, out)?;
         }
         Ok(())
+    }
+
+    /// Returns whether these nodes hear each other.
+    fn is_connected(&self, sender: Proc, receiver: Proc) -> bool {
+        self.run.is_connected(sender, receiver)
     }
 
     /// Finds what the step of a turn restores, before it is made.
     ///
     /// A copy that is lost makes none.
-    fn foresee_turn(&mut self, open_copy: OpenCopy, is_delivered: bool) -> Result<(), Fault>
+    fn foresee_turn(&mut self, receiver: Proc, number: u64, is_delivered: bool) -> Result<(), Fault>
         ensures { self.new.run ≡ self.old.run }
     {
         if is_delivered {
-            self.find_restored_places(open_copy.receiver, open_copy.frame)
+            self.find_restored_places(receiver, number)
         } else {
             Ok(())
         }
@@ -343,23 +345,41 @@ impl<O: Object> Tracer<O> {
         ensures { self.new.run ≡ self.old.run }
     {
         self.restored_places = None;
+        if let Some(frame) = self.offer_of(node, number) {
+            self.restored_places = restored_in(self.alloc, self.run.world(), node, frame)?;
+        }
+        Ok(())
+    }
+
+    /// Notes how many places the frame's snapshot offers the node, if it has one.
+    ///
+    /// Returns the frame if the node's step on it may restore a snapshot.
+    fn offer_of(&mut self, node: Proc, number: u64) -> Option<SentFrame>
+        ensures { self.new.run ≡ self.old.run }
+    {
+        let frame = self.sent.frame(number)?;
         let node_index = usize::from(node.number()) - 1;
-        let Some(frame) = self.sent.frame(number) else {
-            return Ok(());
-        };
-        let Some(node_view) = self.node_views.get_mut(node_index) else {
-            return Ok(());
-        };
+        let node_view = self.node_views.get_mut(node_index)?;
         if !frame.to.contains(node) {
-            return Ok(());
+            return None;
         }
         node_view.offered = node_view.offered.max(frame.snapshot.unwrap_or(0));
         if node_view.committed < node_view.offered {
-            let world = self.run.world();
-            let node_state = world.node(world.fixed().proc(node.number())?);
-            let bytes = world.sent_text().get(frame.begin..frame.end).unwrap_or(&[]);
-            self.restored_places = restored_by(self.alloc, node_state, bytes)?;
+            Some(frame)
+        } else {
+            None
         }
+    }
+
+    /// Makes a turn with this copy, the first that is open, and reports its effect.
+    fn make_turn<W: Write>(&mut self, open_copy: OpenCopy, out: &mut W) -> Result<(), Failure>
+        requires { slice_get self.now.run.open_copies 0 ≡ Some open_copy }
+        ensures { OnOk result (IsTurnDone O.sequential self.old.run self.new.run) }
+    {
+        let is_delivered = self.is_connected(open_copy.sender, open_copy.receiver);
+        self.foresee_turn(open_copy.receiver, open_copy.frame, is_delivered)?;
+        self.run.run_line_silently(ScriptLine::Pump { turns: 1 })?;
+        self.report_copy(open_copy, is_delivered, out)?;
         Ok(())
     }
 

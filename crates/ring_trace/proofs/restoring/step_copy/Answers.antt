@@ -3,8 +3,8 @@ use Rattle.std.proofs.Common.{◌≡◌}
 use Rattle.ring_wire.specs.FrameEncodingLaws.{frame_encoding_of_grammar}
 use Rattle.ring_trace.proofs.restoring.step_copy.Goals as goal
 
-pub step-requires-fits : goal.step-requires-fits
-step-requires-fits g c = (frame_encoding_of_grammar _ _ c.in_ok-frame.ensures.found).0
+pub step-requires : goal.step-requires
+step-requires g c = record { fits = (frame_encoding_of_grammar _ _ c.in_ok-frame.ensures.found).0 }
 
 pub returns-in-Ok-clause-told : goal.returns-in-Ok-clause-told
 returns-in-Ok-clause-told g c = record {
