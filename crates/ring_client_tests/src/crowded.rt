@@ -10,7 +10,7 @@ use ring_base::{Fault, Fixed};
 use ring_checker::is_linearization;
 use ring_client::{Client, Port};
 use ring_host_port::{
-    BookName, ClientCalls, Gate, Host, Opening, Seat, client_calls_of, client_with_ports,
+    BookName, ClientCalls, Gate, Host, Opening, Seat, client_with_ports, order_and_history_of,
     take_seats,
 };
 use ring_object::Object;
@@ -141,7 +141,7 @@ fn is_legal<O: Object, K: BookName<O::Alloc>, W: Wait>(
     alloc: O::Alloc,
     host: &Host<O, K>,
 ) -> Result<bool, Fault> {
-    let ClientCalls { order, history } = client_calls_of(rt, host)?;
+    let ClientCalls { order, history } = order_and_history_of(rt, host)?;
     is_linearization::<O>(alloc, order.as_slice(), history.as_slice())
 }
 
