@@ -25,6 +25,4 @@ mod partition;
 #[cfg(test)]
 mod printed;
 #[cfg(test)]
-mod refused_checks;
-#[cfg(test)]
 mod scripts;
