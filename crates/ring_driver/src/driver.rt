@@ -325,8 +325,8 @@ impl<O: Object> Driver<O> {
 
     /// Returns whether the last step installed a ring.
     ///
-    /// [`node`](Driver::node) returns that ring's name and members. A refused step doesn't count. Returns false before the
-    /// first step.
+    /// The `ring` and `members` of [`node`](Driver::node) then return that ring's name and members. A refused step
+    /// doesn't count. Returns false before the first step.
     ///
     /// Rules: Outputs 1
     pub fn has_installed(&self) -> bool

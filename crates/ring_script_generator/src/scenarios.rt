@@ -11,8 +11,11 @@ use ring_script::Vocabulary;
 use std::alloc::Allocator;
 
 impl<V: Vocabulary, A: Allocator> ScriptBuilder<V, A> {
-    /// Appends the whole script after its head: an opening, random scenarios until the lines are used up, an end, and
-    /// `show`.
+    /// Appends the whole script after its head: an opening, random scenarios until only the lines reserved for the end
+    /// are left, the end, and `show`.
+    ///
+    /// The counted lines are exactly those that the builder had left. If they are too few, the end, or even the opening,
+    /// is cut short.
     ///
     /// Errors: `Memory` if an allocation fails. The text is then unspecified.
     ///

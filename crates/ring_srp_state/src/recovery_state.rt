@@ -67,9 +67,10 @@ impl<A: Allocator + Copy> RecoveryState<A> {
 
     /// Holds a message of the running ring.
     ///
-    /// The plan records it, the window takes it if its number is new there, and the messages that the front newly
-    /// covers are counted. The window's safe mark must be at most the number of messages counted so far, which must be
-    /// those from number 1 on. Whether the message belongs to the running ring isn't checked.
+    /// The plan records it, and the window takes it if it belongs to the running ring and its number is new there. Then
+    /// the messages that the front newly covers are counted. The window's safe mark must be at most the number of
+    /// messages counted so far, which must be those from number 1 on. Pass only messages of the running ring: the window
+    /// ignores any other, but the plan records it unchecked.
     ///
     /// Rules: Recovery 5, 7 and 11
     pub fn take(&mut self, message: Message<A>)

@@ -54,7 +54,7 @@ pub fn the_rest_is_out_of_order()
         && delivers_own rest_out_of_order))) ≡ true }
 {}
 
-/// States an example of a wrong life: a call within the front isn't given as `Agreed`.
+/// States an example of two wrong lives: calls within the front aren't given as `Agreed`.
 ///
 /// It breaks `same_text` and meets the other four facts of virtual synchrony.
 ///
