@@ -48,7 +48,8 @@ pub(crate) fn print_event<A: Allocator + Copy, W: Write>(
     writeln!(out).map_err(|_| Failure::Output)
 }
 
-/// Prints the line of a fold: events in which frames were delivered and nothing changed.
+/// Prints the line of a fold: events that deliver frames and change nothing that a trace shows, with the copies lost
+/// between them.
 ///
 /// Errors: `Output` if `out` fails. How much has been written is then unspecified.
 ///

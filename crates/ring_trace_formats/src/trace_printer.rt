@@ -133,9 +133,10 @@ impl TracePrinter {
         }
     }
 
-    /// Prints the line of a fold: events in which frames were delivered and nothing changed.
+    /// Prints the line of a fold: events that deliver frames and change nothing that a trace shows, with the copies lost
+    /// between them.
     ///
-    /// `Json` and `Html` also have its turns.
+    /// `Json` and `Html` also have its turns. In `Svg` nothing is printed.
     ///
     /// Errors: as for [`print_event`](TracePrinter::print_event).
     ///

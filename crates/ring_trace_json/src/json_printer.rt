@@ -109,7 +109,8 @@ impl JsonPrinter {
         self.print_line(out, &line)
     }
 
-    /// Prints the object of a fold, events in which frames were delivered and nothing changed, with its turns.
+    /// Prints the object of a fold, with its turns: events that deliver frames and change nothing that a trace shows, with
+    /// the copies lost between them.
     ///
     /// Errors: as for [`print_event`](JsonPrinter::print_event).
     ///

@@ -203,7 +203,8 @@ impl<A: Allocator + Copy> TracePicture<A> {
         }
     }
 
-    /// Draws a fold, events in which frames were delivered and nothing changed, into one column.
+    /// Draws a fold into one column: events that deliver frames and change nothing that a trace shows, with the copies
+    /// lost between them.
     ///
     /// Errors: `Memory` if an allocation fails; a part may then have been drawn.
     ///

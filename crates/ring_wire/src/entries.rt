@@ -233,7 +233,7 @@ impl Entries {
 
     /// Returns a copy of the list.
     ///
-    /// Unlike `clone` it can't fail. Does not allocate.
+    /// Unlike `clone` it returns no `Result`. Does not allocate.
     pub fn copy_of_entries(&self) -> Entries
         ensures { result ≡ self.now }
     {

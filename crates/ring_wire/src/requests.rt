@@ -91,7 +91,7 @@ impl Requests {
 
     /// Returns a copy of the list.
     ///
-    /// Unlike `clone` it can't fail. Does not allocate.
+    /// Unlike `clone` it returns no `Result`. Does not allocate.
     pub fn copy_of_requests(&self) -> Requests
         ensures { result ≡ self.now }
     {
