@@ -390,7 +390,7 @@ impl<O: Object, K: BookName<O::Alloc>> HostOf<Cell<O, K>, Book<O, K>, O::Alloc> 
     /// Errors: as for [`finish_step`].
     ///
     /// Rules: The book and the threads 21 and 22
-    pub(crate) fn lock_and_finish_step<W: Wait>(
+    fn lock_and_finish_step<W: Wait>(
         &self,
         rt: &W,
         place: Place,

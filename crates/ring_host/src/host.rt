@@ -2,7 +2,7 @@
 //!
 //! Rules: The book and the threads 19, 20, 24 to 26 and 28
 
-ghost use Rattle.std.specs.Prelude.{◌≡◌, ◌<◌, ◌≤◌, ◌⊎◌, [], ◌++◌, All, IfOk, IfErr, IfSome, IfNone, OnErr};
+ghost use Rattle.std.specs.Prelude.{◌≡◌, ◌<◌, ◌≤◌, ◌⊎◌, [], ◌++◌, All, IfOk, IfErr, IfSome, IfNone, OnOk, OnErr};
 ghost use Rattle.std.specs.Prelude.{Ok, Some, None, option_to_list};
 ghost use Rattle.ring_base.specs.declared.fault.Fault.TheVariants.{NotMember, Memory, Stranger};
 ghost use Rattle.std.specs.Fn.{FnOnceReturnsAt};
@@ -21,8 +21,7 @@ use crate::gate::YieldingGate;
 use crate::gated_turn::turn_report;
 use crate::inbox::Inbox;
 use crate::inbox_frame_and_task::Task;
-use crate::locked_step::stop_cell;
-use crate::locked_submit::submit_call;
+use crate::locked_node::LockedNode;
 use crate::locking::lock_after_spinning;
 use crate::turn::Turn;
 use ring_base::{Fault, Kind, MAX_PROCESSORS, Proc};
@@ -225,62 +224,6 @@ impl<O: Object, K: BookName<O::Alloc>> HostOf<Cell<O, K>, Book<O, K>, O::Alloc> 
         Ok(turn_report(done))
     }
 
-    /// Submits a call at the node, enters its line, and returns the node with its ticket.
-    ///
-    /// Seat and node must be this host's. `call` must be within the limits of its format, as each call from `Call::new`
-    /// is. A successful submit ends all rests. Waits for the locks of the node and of the book.
-    ///
-    /// Errors, in this order: `BookFull` if the book has no free place; `Memory` if an allocation for the place fails;
-    /// `Stranger` while the node's last step isn't in the book; `Stopped` if the node has stopped; `PendingFull` if it
-    /// can give no ticket; `Memory` if an allocation for the call fails. Node and book are then unchanged.
-    ///
-    /// Rules: The book and the threads 24 and 29
-    pub fn submit<W: Wait>(
-        &self,
-        rt: &W,
-        seat: &mut Seat<O::Alloc>,
-        node: Proc,
-        call: Call<O::Alloc>,
-    ) -> Result<HostTicket, Fault>
-        requires seat { seat.old.gauge ≡ self.now }
-        requires member { node ≤ self.now.words }
-        requires fits { CallFits call }
-        ensures seat { seat.new ≡ seat.old }
-        ensures node { IfOk result (λ t. t.node ≡ node) }
-        ensures refused { IfErr result IsSubmitFault }
-    {
-        // Only the contract uses the seat: who submits has a seat of this host.
-        let _seat = seat;
-        let submitted = self.submit_locked(rt, node, call);
-        if submitted.is_ok() {
-            self.event_count.notify_all();
-        }
-        submitted
-    }
-
-    /// Stops a node of this host for good, and enters the stop in the book.
-    ///
-    /// A successful stop ends all rests: resting nodes take so few turns that they would give up the stopped node only
-    /// after hours. Waits for the locks of the node and of the book.
-    ///
-    /// Errors, in this order: `BookFull` if the book has no free place; `Memory` if an allocation fails; `Stranger`
-    /// while the node's last step isn't in the book; `Stopped` if the node had already stopped. Node and book are then
-    /// unchanged.
-    ///
-    /// Rules: The book and the threads 25 and 29
-    pub fn stop<W: Wait>(&self, rt: &W, node: Proc) -> Result<(), Fault>
-        requires { node ≤ self.now.words }
-        ensures refused { IfErr result IsTurnFault }
-    {
-        let mut cell = lock_after_spinning(rt, &self.cells[node.number() as usize - 1]);
-        let place = lock_after_spinning(rt, &self.book).reserve()?;
-        let stopped = stop_cell(&mut cell);
-        let mut none = Outbox::new(self.alloc);
-        self.lock_and_finish_step(rt, place, &mut cell, stopped, &mut none)?;
-        self.event_count.notify_all();
-        Ok(())
-    }
-
     /// Returns the answer to the ticket's call if this host's book has it.
     ///
     /// If there is an answer, some run of the group issues the ticket and has this answer to it. The result may be
@@ -323,25 +266,94 @@ impl<O: Object, K: BookName<O::Alloc>> HostOf<Cell<O, K>, Book<O, K>, O::Alloc> 
         let book = lock_after_spinning(rt, &self.book);
         answers.fill_from_book(&book, ticket);
     }
+}
+
+impl<C: LockedNode<B, A>, B, A: Allocator + Copy + Drop> HostOf<C, B, A> {
+    /// Submits a call at the node, enters its line, and returns the node with its ticket.
+    ///
+    /// Seat and node must be this host's. `call` must be within the limits of its format, as each call from `Call::new`
+    /// is. A successful submit ends all rests. Waits for the locks of the node and of the book.
+    ///
+    /// If the call is submitted, some run of the group ends with its issue at the node, and the ticket is the index of
+    /// this call, from 0, among all calls that the run issues there.
+    ///
+    /// Errors, in this order: `BookFull` if the book has no free place; `Memory` if an allocation for the place fails;
+    /// `Stranger` while the node's last step isn't in the book; `Stopped` if the node has stopped; `PendingFull` if it
+    /// can give no ticket; `Memory` if an allocation for the call fails. Node and book are then unchanged.
+    ///
+    /// Rules: The book and the threads 24 and 29
+    pub fn submit<W: Wait>(
+        &self,
+        rt: &W,
+        seat: &mut Seat<A>,
+        node: Proc,
+        call: Call<A>,
+    ) -> Result<HostTicket, Fault>
+        requires seat { seat.old.gauge ≡ self.now }
+        requires member { node ≤ self.now.words }
+        requires fits { CallFits call }
+        ensures seat { seat.new ≡ seat.old }
+        ensures node { IfOk result (λ t. t.node ≡ node) }
+        ensures submitted { IfOk result (λ t. C.is_submitted node call t.ticket) }
+        ensures refused { IfErr result IsSubmitFault }
+    {
+        // Only the contract uses the seat: who submits has a seat of this host.
+        let _seat = seat;
+        let submitted = self.submit_locked(rt, node, call);
+        if submitted.is_ok() {
+            self.event_count.notify_all();
+        }
+        submitted
+    }
+
+    /// Stops a node of this host for good, and enters the stop in the book.
+    ///
+    /// A successful stop ends all rests: resting nodes take so few turns that they would give up the stopped node only
+    /// after hours. Waits for the locks of the node and of the book.
+    ///
+    /// If the node is stopped, some run of the group ends with its stop.
+    ///
+    /// Errors, in this order: `BookFull` if the book has no free place; `Memory` if an allocation fails; `Stranger`
+    /// while the node's last step isn't in the book; `Stopped` if the node had already stopped. Node and book are then
+    /// unchanged.
+    ///
+    /// Rules: The book and the threads 25 and 29
+    pub fn stop<W: Wait>(&self, rt: &W, node: Proc) -> Result<(), Fault>
+        requires { node ≤ self.now.words }
+        ensures stopped { OnOk result (C.is_stopped node) }
+        ensures refused { IfErr result IsTurnFault }
+    {
+        self.stop_locked(rt, node)?;
+        self.event_count.notify_all();
+        Ok(())
+    }
 
     /// Submits a call under the node's lock and the book's.
     ///
     /// It holds the book's lock from the reservation to the line: taking it twice would cost more time than the submit
     /// in between.
-    fn submit_locked<W: Wait>(
-        &self,
-        rt: &W,
-        node: Proc,
-        call: Call<O::Alloc>,
-    ) -> Result<HostTicket, Fault>
+    fn submit_locked<W: Wait>(&self, rt: &W, node: Proc, call: Call<A>) -> Result<HostTicket, Fault>
         requires member { node ≤ self.now.words }
         requires fits { CallFits call }
         ensures node { IfOk result (λ t. t.node ≡ node) }
+        ensures submitted { IfOk result (λ t. C.is_submitted node call t.ticket) }
         ensures refused { IfErr result IsSubmitFault }
     {
         let mut cell = lock_after_spinning(rt, &self.cells[node.number() as usize - 1]);
         let mut book = lock_after_spinning(rt, &self.book);
-        let ticket = submit_call(&mut cell, &mut book, call)?;
+        let ticket = cell.submit_in(&mut book, node, &mut Some(call))?;
         Ok(HostTicket { node, ticket })
+    }
+
+    /// Stops a node under its lock and the book's.
+    fn stop_locked<W: Wait>(&self, rt: &W, node: Proc) -> Result<(), Fault>
+        requires { node ≤ self.now.words }
+        ensures stopped { OnOk result (C.is_stopped node) }
+        ensures refused { IfErr result IsTurnFault }
+    {
+        let mut cell = lock_after_spinning(rt, &self.cells[node.number() as usize - 1]);
+        let mut book = lock_after_spinning(rt, &self.book);
+        let mut none = Outbox::new(self.alloc);
+        cell.stop_in(&mut book, node, &mut none)
     }
 }
