@@ -2,9 +2,10 @@
 //!
 //! Rules: The book and the threads 20, 24 and 25
 
-ghost use Rattle.std.specs.Prelude.{◌≡◌, IfOk, IfErr, IfSome, IsSomeAnd, OnOk};
+ghost use Rattle.std.specs.Prelude.{◌≡◌, ◌⊎◌, Err, IfOk, IfErr, IfSome, IsSomeAnd, OnOk};
 ghost use Rattle.ring_base.specs.declared.fault.Fault.TheVariants.{Stranger};
 ghost use Rattle.ring_payload.specs.Calls.{CallFits};
+ghost use Rattle.ring_host.specs.LockedSteps.{IsSettled};
 ghost use Rattle.ring_host.specs.RefusingHeap.{IsTurnFault, IsSubmitFault};
 ghost use Rattle.ring_host.specs.SubmitsAndStops.{IsSubmitted, IsStopped};
 
@@ -40,6 +41,11 @@ pub trait LockedNode<B, A: Allocator + Copy + Drop> {
     /// For a cell: some run of the group ends with the stop of that node.
     ghost is_stopped: { ℕ → Type 0 };
 
+    /// True of a node whose last step isn't in the book.
+    ///
+    /// For a cell: it is a line ahead.
+    ghost is_ahead: { Self → Type 0 };
+
     /// Submits a call at the processor `node`, whose node this is, enters its line in the book, and returns the ticket.
     ///
     /// Takes the call out of `call`, which must have one, within the limits of its format.
@@ -47,9 +53,9 @@ pub trait LockedNode<B, A: Allocator + Copy + Drop> {
     /// Errors, in this order: `Stranger` if this is the node of another processor; `BookFull` if the book has no free
     /// place; `Memory` if an allocation for the place fails; `Stranger` while the node's last step isn't in the book;
     /// `Stopped` if the node has stopped; `PendingFull` if it can give no ticket; `Memory` if an allocation for the call
-    /// fails. Node and book are then unchanged.
+    /// fails. Node and book are then unchanged. Unless it returns `Stranger`, no node is left ahead that wasn't before.
     ///
-    /// Rules: The book and the threads 24
+    /// Rules: The book and the threads 16 and 24
     // The call is borrowed: Rattle makes no proof of an `impl` for `Cell<O, K>` with a method that takes it by value.
     fn submit_in(
         &mut self,
@@ -59,6 +65,7 @@ pub trait LockedNode<B, A: Allocator + Copy + Drop> {
     ) -> Result<Ticket, Fault>
         requires fits { IsSomeAnd call.old CallFits }
         ensures submitted { IfOk result (λ ticket. IfSome call.old (λ c. is_submitted node c ticket)) }
+        ensures settled { is_ahead self.new → is_ahead self.old ⊎ (result ≡ Err Stranger) }
         ensures refused { IfErr result IsSubmitFault };
 
     /// Stops the processor `node`, whose node this is, for good, and enters the stop in the book.
@@ -67,20 +74,25 @@ pub trait LockedNode<B, A: Allocator + Copy + Drop> {
     ///
     /// Errors, in this order: `Stranger` if this is the node of another processor; `BookFull` if the book has no free
     /// place; `Memory` if an allocation fails; `Stranger` while the node's last step isn't in the book; `Stopped` if the
-    /// node had already stopped. Node and book are then unchanged.
+    /// node had already stopped. Node and book are then unchanged. Unless it returns `Stranger`, no node is left ahead
+    /// that wasn't before.
     ///
-    /// Rules: The book and the threads 25
+    /// Rules: The book and the threads 16 and 25
     fn stop_in(&mut self, book: &mut B, node: Proc, outbox: &mut Outbox<A>) -> Result<(), Fault>
         ensures stopped { OnOk result (is_stopped node) }
+        ensures settled { is_ahead self.new → is_ahead self.old ⊎ (result ≡ Err Stranger) }
         ensures refused { IfErr result IsTurnFault };
 }
 
 impl<O: Object, K: BookName<O::Alloc>> LockedNode<Book<O, K>, O::Alloc> for Cell<O, K> {
+    ghost use Rattle.std.specs.Prelude.{◌≡◌, true};
     ghost use Rattle.ring_host.specs.SubmitsAndStops.{IsSubmitted, IsStopped};
 
     ghost is_submitted = { λ node call ticket. IsSubmitted O.sequential K.name.group node call ticket };
 
     ghost is_stopped = { λ node. IsStopped O.Alloc O.sequential K.name.group node };
+
+    ghost is_ahead = { λ cell. cell.ahead ≡ true };
 
     fn submit_in(
         &mut self,
@@ -119,6 +131,7 @@ fn submit_at<O: Object, K: BookName<O::Alloc>>(
 ) -> Result<Ticket, Fault>
     requires fits { CallFits call }
     ensures submitted { IfOk result (λ ticket. IsSubmitted O.sequential K.name.group node call ticket) }
+    ensures settled { IsSettled result cell.old cell.new }
     ensures refused { IfErr result IsSubmitFault }
 {
     check_processor(cell, node)?;
@@ -142,6 +155,7 @@ fn stop_at<O: Object, K: BookName<O::Alloc>>(
     outbox: &mut Outbox<O::Alloc>,
 ) -> Result<(), Fault>
     ensures stopped { OnOk result (IsStopped O.Alloc O.sequential K.name.group node) }
+    ensures settled { IsSettled result cell.old cell.new }
     ensures refused { IfErr result IsTurnFault }
 {
     check_processor(cell, node)?;
