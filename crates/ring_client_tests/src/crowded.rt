@@ -52,7 +52,7 @@ fn make_calls<O: Object, K: BookName<O::Alloc>, W: Wait>(
     seats: Vec<Seat<O::Alloc>, O::Alloc>,
     number: u8,
 ) -> Result<(), Fault>
-    requires { AreForAll host.now seats.items }
+    requires { AreForAll host.now.gauge seats.items }
 {
     let mut client = client_with_ports(rt, alloc, host, seats, u32::from(number), number)?;
     add_thrice(&mut client);
@@ -75,7 +75,7 @@ fn run_client<O: Object, K: BookName<O::Alloc>, W: Wait>(
     number: u8,
     running: &AtomicU64,
 )
-    requires { IfOk seats_of_client (λ seats. AreForAll host.now seats.items) }
+    requires { IfOk seats_of_client (λ seats. AreForAll host.now.gauge seats.items) }
 {
     let _ = match seats_of_client {
         Ok(seats) => make_calls(rt, alloc, host, seats, number),
@@ -100,7 +100,7 @@ fn run<
 ) -> Result<(), Fault>
 where
     O::Alloc: Send + Sync,
-    requires { AreSeats host.now nodes seats.items }
+    requires { AreSeats host.now.gauge nodes seats.items }
 {
     let running = AtomicU64::new(u64::from(CLIENTS));
     let remaining = &running;
@@ -108,13 +108,13 @@ where
         thread::scope_env(),
         rt,
         move |scope| -> Result<(), Fault>
-            requires { AreSeats host.now nodes seats.items }
+            requires { AreSeats host.now.gauge nodes seats.items }
         {
             let mut seats = seats;
             for before in 0..CLIENTS {
                 let seats_of_client = take_seats(host, &mut seats, nodes);
                 let called = move ||
-                    requires { IfOk seats_of_client (λ seats. AreForAll host.now seats.items) }
+                    requires { IfOk seats_of_client (λ seats. AreForAll host.now.gauge seats.items) }
                 {
                     run_client(
                         rt,

@@ -57,7 +57,7 @@ pub(crate) fn make_calls_of_client<O: Object, K: BookName<O::Alloc>, C: Caller, 
     number: u32,
     caller: &C,
 ) -> Result<(), Fault>
-    requires { AreForAll host.now seats.items }
+    requires { AreForAll host.now.gauge seats.items }
     ensures refused { IfErr result (λ fault. fault ≡ Memory) }
 {
     let first = caller.first_node();

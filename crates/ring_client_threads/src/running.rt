@@ -97,8 +97,8 @@ fn stop_named_nodes<O: Object, K: BookName<O::Alloc>, W: Wait>(
     host: &Host<O, K>,
     stopped: &[u8],
 ) -> Result<(), Fault>
-    requires few { host.now.words ≤ 16 }
-    requires nodes { All (IsNode host.now.words) stopped.now }
+    requires few { host.now.gauge.words ≤ 16 }
+    requires nodes { All (IsNode host.now.gauge.words) stopped.now }
     ensures refused { IfErr result (λ fault. fault ≡ Memory) }
 {
     for number in stopped {
@@ -132,7 +132,7 @@ fn run_nodes_and_callers<
 ) -> Result<(), Fault>
 where
     O::Alloc: Send + Sync,
-    requires { AreSeats host.now nodes seats.items }
+    requires { AreSeats host.now.gauge nodes seats.items }
     ensures refused { IfErr result (λ fault. fault ≡ Memory) }
 {
     let running = RunningClients::new(callers.len());
@@ -141,7 +141,7 @@ where
         thread::scope_env(),
         rt,
         move |scope|
-            requires { AreSeats host.now nodes seats.items }
+            requires { AreSeats host.now.gauge nodes seats.items }
         {
             let mut seats = seats;
             let mut number = 0u32;
@@ -149,7 +149,7 @@ where
                 number = number.saturating_add(1);
                 let seats_of_client = take_seats(host, &mut seats, nodes);
                 let called = move ||
-                    requires { IfOk seats_of_client (λ seats. AreForAll host.now seats.items) }
+                    requires { IfOk seats_of_client (λ seats. AreForAll host.now.gauge seats.items) }
                 { run_caller(rt, alloc, host, seats_of_client, number, caller, remaining) };
                 if scope.spawn(called).is_err() {
                     remaining.fail_and_stop_nodes(rt, host);
@@ -178,7 +178,7 @@ fn run_caller<O: Object, K: BookName<O::Alloc>, C: Caller, W: Wait>(
     caller: &C,
     running: &RunningClients,
 )
-    requires { IfOk seats_of_client (λ seats. AreForAll host.now seats.items) }
+    requires { IfOk seats_of_client (λ seats. AreForAll host.now.gauge seats.items) }
 {
     let called = match seats_of_client {
         Ok(seats) => make_calls_of_client(rt, alloc, host, seats, number, caller),

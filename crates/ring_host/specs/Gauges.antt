@@ -1,2 +1,2 @@
--- The view of a host in contracts, its gauge, re-exported for crates that use hosts.
+-- A host's gauge in contracts, re-exported for crates that use hosts.
 pub use Rattle.atomic_table.specs.Seated.{TableId}

@@ -36,9 +36,10 @@ impl<O: Object, K: BookName<O::Alloc>> HostOf<Cell<O, K>, Book<O, K>, O::Alloc> 
         requires name { opening ≡ K.name }
         requires few { more ≤ 256 }
         ensures count { IfOk result (λ r. length r.1.items ≡ K.name.group.count + more) }
-        ensures seats { IfOk result (λ r. AreNew r.0 K.name.group.count r.1.items) }
-        ensures at { IfOk result (λ r. All (IsAt r.0) r.1.items) }
-        ensures nodes { IfOk result (λ r. r.0.words ≡ K.name.group.count) }
+        ensures seats { IfOk result (λ r. AreNew r.0.gauge K.name.group.count r.1.items) }
+        ensures at { IfOk result (λ r. All (IsAt r.0.gauge) r.1.items) }
+        ensures nodes { IfOk result (λ r. r.0.gauge.words ≡ K.name.group.count) }
+        ensures inboxes { IfOk result (λ r. r.0.inbox_size ≡ 1024) }
         ensures refused { IfErr result (λ fault. fault ≡ Memory) }
     {
         HostOf::with_inbox(alloc, opening, more, INBOX)
@@ -61,9 +62,10 @@ impl<O: Object, K: BookName<O::Alloc>> HostOf<Cell<O, K>, Book<O, K>, O::Alloc> 
         requires few { more ≤ 256 }
         requires size { (1 ≤ size) × (size ≤ 1024) }
         ensures count { IfOk result (λ r. length r.1.items ≡ K.name.group.count + more) }
-        ensures seats { IfOk result (λ r. AreNew r.0 K.name.group.count r.1.items) }
-        ensures at { IfOk result (λ r. All (IsAt r.0) r.1.items) }
-        ensures nodes { IfOk result (λ r. r.0.words ≡ K.name.group.count) }
+        ensures seats { IfOk result (λ r. AreNew r.0.gauge K.name.group.count r.1.items) }
+        ensures at { IfOk result (λ r. All (IsAt r.0.gauge) r.1.items) }
+        ensures nodes { IfOk result (λ r. r.0.gauge.words ≡ K.name.group.count) }
+        ensures inboxes { IfOk result (λ r. r.0.inbox_size ≡ size) }
         ensures refused { IfErr result (λ fault. fault ≡ Memory) }
     {
         let (book, parts) = opening.parts::<K>()?;
@@ -75,6 +77,7 @@ impl<O: Object, K: BookName<O::Alloc>> HostOf<Cell<O, K>, Book<O, K>, O::Alloc> 
             alloc,
             cells,
             inboxes,
+            inbox_size: size,
             gauge,
             event_count: EventCount::new(),
             closed: AtomicBool::new(false),

@@ -213,8 +213,8 @@ impl<O: Object, K: BookName<O::Alloc>> HostOf<Cell<O, K>, Book<O, K>, O::Alloc> 
         seat: &mut Seat<O::Alloc>,
         gate: &G,
     ) -> Result<Option<StepReport>, Fault>
-        requires own { IsOwn self.now seat.old }
-        ensures seat { IsOwn self.now seat.new × (seat.new.node ≡ seat.old.node) × (seat.new.seen ≡ seat.old.seen) }
+        requires own { IsOwn self.now.gauge seat.old }
+        ensures seat { IsOwn self.now.gauge seat.new × (seat.new.node ≡ seat.old.node) × (seat.new.seen ≡ seat.old.seen) }
         ensures ok { IfOk result (λ done. seat.new.published ≡ published_by (length_of done) seat.old.published) }
         ensures clock { IfOk result (λ done. IsTurned O.Alloc O.sequential K.name.group done seat.old.clock seat.new.clock) }
         ensures gate { IfOk result (λ done. IfSome done (λ _. HasPassed (G.has_reached gate.now) seat.old.node)) }
@@ -245,9 +245,9 @@ impl<O: Object, K: BookName<O::Alloc>> HostOf<Cell<O, K>, Book<O, K>, O::Alloc> 
         received: &mut Option<Frame<O::Alloc>>,
         gate: &G,
     ) -> Result<Option<StepReport>, Fault>
-        requires own { IsOwn self.now seat.old }
-        requires member { node ≤ self.now.words }
-        ensures seat { IsOwn self.now seat.new × (seat.new.node ≡ seat.old.node) × (seat.new.seen ≡ seat.old.seen) }
+        requires own { IsOwn self.now.gauge seat.old }
+        requires member { node ≤ self.now.gauge.words }
+        ensures seat { IsOwn self.now.gauge seat.new × (seat.new.node ≡ seat.old.node) × (seat.new.seen ≡ seat.old.seen) }
         ensures ok { IfOk result (λ done. seat.new.published ≡ published_by (length_of done) seat.old.published) }
         ensures clock { IfOk result (λ done. IsTurnedAt O.Alloc O.sequential K.name.group due done seat.old.clock seat.new.clock) }
         ensures gate { IfOk result (λ done. IfSome done (λ _. HasPassed (G.has_reached gate.now) seat.old.node)) }
@@ -275,9 +275,9 @@ impl<O: Object, K: BookName<O::Alloc>> HostOf<Cell<O, K>, Book<O, K>, O::Alloc> 
         received: &Option<Frame<O::Alloc>>,
         gate: &G,
     ) -> Result<StepReport, Fault>
-        requires own { IsOwn self.now seat.old }
+        requires own { IsOwn self.now.gauge seat.old }
         requires fits { TaskFits received.now task }
-        ensures seat { IsOwn self.now seat.new × (seat.new.node ≡ seat.old.node) × (seat.new.seen ≡ seat.old.seen) }
+        ensures seat { IsOwn self.now.gauge seat.new × (seat.new.node ≡ seat.old.node) × (seat.new.seen ≡ seat.old.seen) }
         ensures ok { IfOk result (λ done. seat.new.published ≡ seat.old.published ++ done.committed_len ∷ []) }
         ensures done { IfOk result (IsStepReport O.sequential K.name.group received.now task) }
         ensures clock { IfOk result (λ done. IsNoted done.task_kind done.sent seat.old.clock seat.new.clock) }
@@ -311,7 +311,7 @@ impl<O: Object, K: BookName<O::Alloc>> HostOf<Cell<O, K>, Book<O, K>, O::Alloc> 
         gate: &G,
         outbox: &mut Outbox<O::Alloc>,
     ) -> Result<StepReport, Fault>
-        requires member { node ≤ self.now.words }
+        requires member { node ≤ self.now.gauge.words }
         requires fits { TaskFits received.now task }
         ensures done { IfOk result (IsStepReport O.sequential K.name.group received.now task) }
         ensures gate { G.has_reached gate.now node Held }
@@ -334,7 +334,7 @@ impl<O: Object, K: BookName<O::Alloc>> HostOf<Cell<O, K>, Book<O, K>, O::Alloc> 
         gate: &G,
         outbox: &mut Outbox<O::Alloc>,
     ) -> Result<StepReport, Fault>
-        requires member { node ≤ self.now.words }
+        requires member { node ≤ self.now.gauge.words }
         requires fits { TaskFits received.now task }
         ensures done { IfOk result (IsStepReport O.sequential K.name.group received.now task) }
         ensures gate { G.has_reached gate.now node Held }
@@ -390,7 +390,7 @@ impl<O: Object, K: BookName<O::Alloc>> HostOf<Cell<O, K>, Book<O, K>, O::Alloc> 
     /// Errors: as for [`finish_step`].
     ///
     /// Rules: The book and the threads 21 and 22
-    pub(crate) fn lock_and_finish_step<W: Wait>(
+    fn lock_and_finish_step<W: Wait>(
         &self,
         rt: &W,
         place: Place,

@@ -2,7 +2,7 @@
 //!
 //! Rules: The book and the threads 19, 20, 24 to 26 and 28
 
-ghost use Rattle.std.specs.Prelude.{◌≡◌, ◌<◌, ◌≤◌, ◌⊎◌, [], ◌++◌, All, IfOk, IfErr, IfSome, IfNone, OnErr};
+ghost use Rattle.std.specs.Prelude.{◌≡◌, ◌<◌, ◌≤◌, ◌⊎◌, [], ◌++◌, All, IfOk, IfErr, IfSome, IfNone, OnOk, OnErr};
 ghost use Rattle.std.specs.Prelude.{Ok, Some, None, option_to_list};
 ghost use Rattle.ring_base.specs.declared.fault.Fault.TheVariants.{NotMember, Memory, Stranger};
 ghost use Rattle.std.specs.Fn.{FnOnceReturnsAt};
@@ -21,8 +21,7 @@ use crate::gate::YieldingGate;
 use crate::gated_turn::turn_report;
 use crate::inbox::Inbox;
 use crate::inbox_frame_and_task::Task;
-use crate::locked_step::stop_cell;
-use crate::locked_submit::submit_call;
+use crate::locked_node::LockedNode;
 use crate::locking::lock_after_spinning;
 use crate::turn::Turn;
 use ring_base::{Fault, Kind, MAX_PROCESSORS, Proc};
@@ -52,8 +51,8 @@ pub struct HostTicket {
 
 /// A host: a book's nodes in locks, with their inboxes, the book and the gauge.
 ///
-/// `C` is the content of a node's lock, and `B` that of the book's lock. Contracts see the host's gauge: its seats
-/// belong to it, and it has a word for each node.
+/// `C` is the content of a node's lock, and `B` that of the book's lock. Contracts see the host's gauge and the size of
+/// each inbox. The host's seats belong to its gauge, which has a word for each node.
 ///
 /// Lock order: a node's lock, then the book's. No call holds the locks of two nodes.
 ///
@@ -66,6 +65,8 @@ pub struct HostOf<C, B, A: Allocator + Copy + Drop = Global> {
     pub(crate) cells: Vec<Mutex<C>, A>,
     /// The inboxes of the nodes, that of processor 1 first.
     pub(crate) inboxes: Vec<Inbox<A>, A>,
+    /// The number of items for which each inbox has room.
+    pub(crate) inbox_size: usize,
     /// The committed length of each node, as its turns published it.
     pub(crate) gauge: Gauge<A>,
     /// Notified by each submit, by each stop and by the close.
@@ -77,14 +78,16 @@ pub struct HostOf<C, B, A: Allocator + Copy + Drop = Global> {
 }
 
 impl<C, B, A: Allocator + Copy + Drop> Model for HostOf<C, B, A> {
-    ghost use Rattle.std.specs.Prelude.{◌≡◌, vec_len};
-    ghost use Rattle.atomic_table.specs.Seated.{TableId};
+    ghost use Rattle.std.specs.Prelude.{◌≡◌, vec_len, All};
+    ghost use Rattle.ring_host.specs.Hosts.{HostView};
+    ghost use Rattle.ring_host.specs.Items.{HasRoomFor};
 
-    ghost Value = { TableId };
+    ghost Value = { HostView };
 
-    ghost view = { λ h. h.gauge };
+    ghost view = { λ h. record { gauge = h.gauge; inbox_size = h.inbox_size } };
 
-    ghost invariant = { λ h. (vec_len h.cells ≡ h.gauge.words) × (vec_len h.inboxes ≡ h.gauge.words) };
+    ghost invariant = { λ h. (vec_len h.cells ≡ h.gauge.words)
+        × ((vec_len h.inboxes ≡ h.gauge.words) × All (HasRoomFor h.inbox_size) h.inboxes.items) };
 }
 
 /// The host of the book that `K` names: the cells of its nodes, with objects `O`, and the book, all in locks.
@@ -114,8 +117,8 @@ impl<C, B, A: Allocator + Copy + Drop> HostOf<C, B, A> {
     ///
     /// Rules: The book and the threads 19
     pub fn proc(&self, number: u8) -> Result<Proc, Fault>
-        ensures ok { IfOk result (λ node. (node ≡ number) × (node ≤ self.now.words)) }
-        ensures err { OnErr result (1 ≤ number → number ≤ 16 → self.now.words < number) }
+        ensures ok { IfOk result (λ node. (node ≡ number) × (node ≤ self.now.gauge.words)) }
+        ensures err { OnErr result (1 ≤ number → number ≤ 16 → self.now.gauge.words < number) }
         ensures refused { IfErr result (λ fault. fault ≡ NotMember) }
     {
         if number == 0 || number > MAX_PROCESSORS || usize::from(number) > self.inboxes.len() {
@@ -131,9 +134,9 @@ impl<C, B, A: Allocator + Copy + Drop> HostOf<C, B, A> {
     ///
     /// Rules: The book and the threads 19
     pub fn take_seat(&self, seats: &mut Vec<Seat<A>, A>) -> Option<Seat<A>>
-        requires { All (IsAt self.now) seats.old.items }
-        ensures seats { All (IsAt self.now) seats.new.items }
-        ensures seat { IfSome result (IsAt self.now) }
+        requires { All (IsAt self.now.gauge) seats.old.items }
+        ensures seats { All (IsAt self.now.gauge) seats.new.items }
+        ensures seat { IfSome result (IsAt self.now.gauge) }
         ensures last { seats.old.items ≡ seats.new.items ++ option_to_list result }
         ensures none { IfNone result (seats.old.items ≡ []) }
     {
@@ -147,7 +150,7 @@ impl<C, B, A: Allocator + Copy + Drop> HostOf<C, B, A> {
     ///
     /// Rules: The book and the threads 33 and 34
     pub fn gauge(&self) -> &Gauge<A>
-        ensures { result.now ≡ self.now }
+        ensures { result.now ≡ self.now.gauge }
     {
         &self.gauge
     }
@@ -177,7 +180,7 @@ impl<C, B, A: Allocator + Copy + Drop> HostOf<C, B, A> {
         due: Option<Kind>,
         place: &mut Option<Frame<A>>,
     ) -> Result<Option<Task<A>>, Fault>
-        requires { node ≤ self.now.words }
+        requires { node ≤ self.now.gauge.words }
         ensures due { IfSome due (λ kind. result ≡ Ok (Some (Timeout kind))) }
         ensures item { IfNone due (IfOk result (λ found. IfSome found IsFrame)) }
         ensures fits { IfOk result (λ found. IfSome found (TaskFits place.new)) }
@@ -211,8 +214,8 @@ impl<O: Object, K: BookName<O::Alloc>> HostOf<Cell<O, K>, Book<O, K>, O::Alloc> 
     ///
     /// Rules: The book and the threads 21 and 22, 30 to 32
     pub fn turn<W: Wait>(&self, rt: &W, seat: &mut Seat<O::Alloc>) -> Result<Turn, Fault>
-        requires own { IsOwn self.now seat.old }
-        ensures seat { IsOwn self.now seat.new × (seat.new.node ≡ seat.old.node) × (seat.new.seen ≡ seat.old.seen) }
+        requires own { IsOwn self.now.gauge seat.old }
+        ensures seat { IsOwn self.now.gauge seat.new × (seat.new.node ≡ seat.old.node) × (seat.new.seen ≡ seat.old.seen) }
         ensures ok { IfOk result (λ turn. seat.new.published ≡ published_by turn.length seat.old.published) }
         ensures empty_turns { IfOk result (λ turn. turn.length ≡ None → turn.dropped ≡ 0) }
         ensures clock { IfOk result (λ turn. IsCounted turn.length seat.old.clock seat.new.clock) }
@@ -223,62 +226,6 @@ impl<O: Object, K: BookName<O::Alloc>> HostOf<Cell<O, K>, Book<O, K>, O::Alloc> 
     {
         let done = self.gated_turn(rt, seat, &YieldingGate)?;
         Ok(turn_report(done))
-    }
-
-    /// Submits a call at the node, enters its line, and returns the node with its ticket.
-    ///
-    /// Seat and node must be this host's. `call` must be within the limits of its format, as each call from `Call::new`
-    /// is. A successful submit ends all rests. Waits for the locks of the node and of the book.
-    ///
-    /// Errors, in this order: `BookFull` if the book has no free place; `Memory` if an allocation for the place fails;
-    /// `Stranger` while the node's last step isn't in the book; `Stopped` if the node has stopped; `PendingFull` if it
-    /// can give no ticket; `Memory` if an allocation for the call fails. Node and book are then unchanged.
-    ///
-    /// Rules: The book and the threads 24 and 29
-    pub fn submit<W: Wait>(
-        &self,
-        rt: &W,
-        seat: &mut Seat<O::Alloc>,
-        node: Proc,
-        call: Call<O::Alloc>,
-    ) -> Result<HostTicket, Fault>
-        requires seat { seat.old.gauge ≡ self.now }
-        requires member { node ≤ self.now.words }
-        requires fits { CallFits call }
-        ensures seat { seat.new ≡ seat.old }
-        ensures node { IfOk result (λ t. t.node ≡ node) }
-        ensures refused { IfErr result IsSubmitFault }
-    {
-        // Only the contract uses the seat: who submits has a seat of this host.
-        let _seat = seat;
-        let submitted = self.submit_locked(rt, node, call);
-        if submitted.is_ok() {
-            self.event_count.notify_all();
-        }
-        submitted
-    }
-
-    /// Stops a node of this host for good, and enters the stop in the book.
-    ///
-    /// A successful stop ends all rests: resting nodes take so few turns that they would give up the stopped node only
-    /// after hours. Waits for the locks of the node and of the book.
-    ///
-    /// Errors, in this order: `BookFull` if the book has no free place; `Memory` if an allocation fails; `Stranger`
-    /// while the node's last step isn't in the book; `Stopped` if the node had already stopped. Node and book are then
-    /// unchanged.
-    ///
-    /// Rules: The book and the threads 25 and 29
-    pub fn stop<W: Wait>(&self, rt: &W, node: Proc) -> Result<(), Fault>
-        requires { node ≤ self.now.words }
-        ensures refused { IfErr result IsTurnFault }
-    {
-        let mut cell = lock_after_spinning(rt, &self.cells[node.number() as usize - 1]);
-        let place = lock_after_spinning(rt, &self.book).reserve()?;
-        let stopped = stop_cell(&mut cell);
-        let mut none = Outbox::new(self.alloc);
-        self.lock_and_finish_step(rt, place, &mut cell, stopped, &mut none)?;
-        self.event_count.notify_all();
-        Ok(())
     }
 
     /// Returns the answer to the ticket's call if this host's book has it.
@@ -323,25 +270,94 @@ impl<O: Object, K: BookName<O::Alloc>> HostOf<Cell<O, K>, Book<O, K>, O::Alloc> 
         let book = lock_after_spinning(rt, &self.book);
         answers.fill_from_book(&book, ticket);
     }
+}
+
+impl<C: LockedNode<B, A>, B, A: Allocator + Copy + Drop> HostOf<C, B, A> {
+    /// Submits a call at the node, enters its line, and returns the node with its ticket.
+    ///
+    /// Seat and node must be this host's. `call` must be within the limits of its format, as each call from `Call::new`
+    /// is. A successful submit ends all rests. Waits for the locks of the node and of the book.
+    ///
+    /// If the call is submitted, some run of the group ends with its issue at the node, and the ticket is the index of
+    /// this call, from 0, among all calls that the run issues there.
+    ///
+    /// Errors, in this order: `BookFull` if the book has no free place; `Memory` if an allocation for the place fails;
+    /// `Stranger` while the node's last step isn't in the book; `Stopped` if the node has stopped; `PendingFull` if it
+    /// can give no ticket; `Memory` if an allocation for the call fails. Node and book are then unchanged.
+    ///
+    /// Rules: The book and the threads 24 and 29
+    pub fn submit<W: Wait>(
+        &self,
+        rt: &W,
+        seat: &mut Seat<A>,
+        node: Proc,
+        call: Call<A>,
+    ) -> Result<HostTicket, Fault>
+        requires seat { seat.old.gauge ≡ self.now.gauge }
+        requires member { node ≤ self.now.gauge.words }
+        requires fits { CallFits call }
+        ensures seat { seat.new ≡ seat.old }
+        ensures node { IfOk result (λ t. t.node ≡ node) }
+        ensures submitted { IfOk result (λ t. C.is_submitted node call t.ticket) }
+        ensures refused { IfErr result IsSubmitFault }
+    {
+        // Only the contract uses the seat: who submits has a seat of this host.
+        let _seat = seat;
+        let submitted = self.submit_locked(rt, node, call);
+        if submitted.is_ok() {
+            self.event_count.notify_all();
+        }
+        submitted
+    }
+
+    /// Stops a node of this host for good, and enters the stop in the book.
+    ///
+    /// A successful stop ends all rests: resting nodes take so few turns that they would give up the stopped node only
+    /// after hours. Waits for the locks of the node and of the book.
+    ///
+    /// If the node is stopped, some run of the group ends with its stop.
+    ///
+    /// Errors, in this order: `BookFull` if the book has no free place; `Memory` if an allocation fails; `Stranger`
+    /// while the node's last step isn't in the book; `Stopped` if the node had already stopped. Node and book are then
+    /// unchanged.
+    ///
+    /// Rules: The book and the threads 25 and 29
+    pub fn stop<W: Wait>(&self, rt: &W, node: Proc) -> Result<(), Fault>
+        requires { node ≤ self.now.gauge.words }
+        ensures stopped { OnOk result (C.is_stopped node) }
+        ensures refused { IfErr result IsTurnFault }
+    {
+        self.stop_locked(rt, node)?;
+        self.event_count.notify_all();
+        Ok(())
+    }
 
     /// Submits a call under the node's lock and the book's.
     ///
     /// It holds the book's lock from the reservation to the line: taking it twice would cost more time than the submit
     /// in between.
-    fn submit_locked<W: Wait>(
-        &self,
-        rt: &W,
-        node: Proc,
-        call: Call<O::Alloc>,
-    ) -> Result<HostTicket, Fault>
-        requires member { node ≤ self.now.words }
+    fn submit_locked<W: Wait>(&self, rt: &W, node: Proc, call: Call<A>) -> Result<HostTicket, Fault>
+        requires member { node ≤ self.now.gauge.words }
         requires fits { CallFits call }
         ensures node { IfOk result (λ t. t.node ≡ node) }
+        ensures submitted { IfOk result (λ t. C.is_submitted node call t.ticket) }
         ensures refused { IfErr result IsSubmitFault }
     {
         let mut cell = lock_after_spinning(rt, &self.cells[node.number() as usize - 1]);
         let mut book = lock_after_spinning(rt, &self.book);
-        let ticket = submit_call(&mut cell, &mut book, call)?;
+        let ticket = cell.submit_in(&mut book, node, &mut Some(call))?;
         Ok(HostTicket { node, ticket })
+    }
+
+    /// Stops a node under its lock and the book's.
+    fn stop_locked<W: Wait>(&self, rt: &W, node: Proc) -> Result<(), Fault>
+        requires { node ≤ self.now.gauge.words }
+        ensures stopped { OnOk result (C.is_stopped node) }
+        ensures refused { IfErr result IsTurnFault }
+    {
+        let mut cell = lock_after_spinning(rt, &self.cells[node.number() as usize - 1]);
+        let mut book = lock_after_spinning(rt, &self.book);
+        let mut none = Outbox::new(self.alloc);
+        cell.stop_in(&mut book, node, &mut none)
     }
 }

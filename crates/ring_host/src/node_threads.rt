@@ -20,7 +20,7 @@ use std::thread::Threads;
 impl<O: Object, K: BookName<O::Alloc>> HostOf<Cell<O, K>, Book<O, K>, O::Alloc> {
     /// Runs the turns of the seat's node, if the seat is a node's own.
     fn run_seat<W: Wait, G: Gate>(&self, rt: &W, seat: &mut Seat<O::Alloc>, gate: &G)
-        requires { IsAt self.now seat.old }
+        requires { IsAt self.now.gauge seat.old }
     {
         let Some(_node) = seat.node() else {
             return;
@@ -32,7 +32,7 @@ impl<O: Object, K: BookName<O::Alloc>> HostOf<Cell<O, K>, Book<O, K>, O::Alloc> 
     ///
     /// In the last two cases all rests end.
     fn run_node<W: Wait, G: Gate>(&self, rt: &W, seat: &mut Seat<O::Alloc>, gate: &G)
-        requires { IsOwn self.now seat.old }
+        requires { IsOwn self.now.gauge seat.old }
     {
         for _ in rt.forever() {
             if self.closed.load(Ordering::SeqCst) {
@@ -76,7 +76,7 @@ where
         seats: &mut [Seat<O::Alloc>],
         gate: &G,
     ) -> Result<(), Fault>
-        requires { All (IsAt self.now) seats.old }
+        requires { All (IsAt self.now.gauge) seats.old }
         ensures refused { IfErr result (λ fault. fault ≡ Memory) }
     {
         let refused = AtomicBool::new(false);
@@ -85,11 +85,11 @@ where
             thread::scope_env(),
             rt,
             |scope|
-                requires { All (IsAt self.now) seats.now }
+                requires { All (IsAt self.now.gauge) seats.now }
             {
                 for seat in seats {
                     let turns = move ||
-                        requires { IsAt self.now seat.now }
+                        requires { IsAt self.now.gauge seat.now }
                     { self.run_seat(rt, seat, gate) };
                     if scope.spawn(turns).is_err() {
                         told.store(true, Ordering::SeqCst);

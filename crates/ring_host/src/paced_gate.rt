@@ -68,7 +68,7 @@ impl<C, B, A: Allocator + Copy + Drop> HostOf<C, B, A> {
     ///
     /// Rules: The book and the threads 29
     pub fn paced_gate<'a, W: Wait>(&'a self, rt: &'a W) -> Result<PacedGate<'a, W, A>, Fault>
-        ensures quiet_counts { IfOk result (λ gate. vec_len gate.quiet_counts ≡ self.now.words) }
+        ensures quiet_counts { IfOk result (λ gate. vec_len gate.quiet_counts ≡ self.now.gauge.words) }
         ensures refused { IfErr result (λ fault. fault ≡ Memory) }
     {
         let mut quiet_counts = Vec::new(self.alloc);

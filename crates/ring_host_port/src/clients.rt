@@ -28,9 +28,9 @@ pub fn take_seats<O: Object, K: BookName<O::Alloc>>(
     seats: &mut Vec<Seat<O::Alloc>, O::Alloc>,
     nodes: u8,
 ) -> Result<Vec<Seat<O::Alloc>, O::Alloc>, Fault>
-    requires { AreSeats host.now nodes seats.old.items }
-    ensures seats { AreSeats host.now nodes seats.new.items }
-    ensures own { IfOk result (λ own. AreForAll host.now own.items) }
+    requires { AreSeats host.now.gauge nodes seats.old.items }
+    ensures seats { AreSeats host.now.gauge nodes seats.new.items }
+    ensures own { IfOk result (λ own. AreForAll host.now.gauge own.items) }
     ensures taken { IfOk result (λ own. seats.old.items ≡ seats.new.items ++ own.items) }
     ensures kept { OnErr result (seats.new.items ≡ seats.old.items) }
     ensures refused { IfErr result (AreNotTaken nodes seats.old.items) }
@@ -64,8 +64,8 @@ pub fn client_with_ports<'a, O: Object, K: BookName<O::Alloc>, W: Wait>(
     number: u32,
     first: u8,
 ) -> Result<Client<HostPort<'a, O, K, W>>, Fault>
-    requires { AreForAll host.now seats.items }
-    ensures client { IfOk result (IsNew (λ port. port.node) (λ port. port.asked) number host.now.words first) }
+    requires { AreForAll host.now.gauge seats.items }
+    ensures client { IfOk result (IsNew (λ port. port.node) (λ port. port.asked) number host.now.gauge.words first) }
     ensures refused { IfErr result (λ fault. fault ≡ Memory) }
 {
     let mut seats = seats;
@@ -84,10 +84,10 @@ fn append_port_to_each_node<'a, O: Object, K: BookName<O::Alloc>, W: Wait>(
     first: u8,
     ports: &mut Vec<HostPort<'a, O, K, W>, O::Alloc>,
 ) -> Result<(), Fault>
-    requires seats { AreForAll host.now seats.old.items }
+    requires seats { AreForAll host.now.gauge seats.old.items }
     requires none { ports.old.items ≡ [] }
-    ensures count { OnOk result (length ports.new.items ≡ host.now.words) }
-    ensures order { OnOk result ((k : _) (port : _) → slice_get ports.new.items k ≡ Some port → port.node ≡ node_after host.now.words first k) }
+    ensures count { OnOk result (length ports.new.items ≡ host.now.gauge.words) }
+    ensures order { OnOk result ((k : _) (port : _) → slice_get ports.new.items k ≡ Some port → port.node ≡ node_after host.now.gauge.words first k) }
     ensures fresh { OnOk result ((k : _) (port : _) → slice_get ports.new.items k ≡ Some port → port.asked ≡ new_asked) }
     ensures refused { IfErr result (λ fault. fault ≡ Memory) }
 {

@@ -57,7 +57,7 @@ pub struct HostPort<'a, O: Object, K: BookName<O::Alloc>, W: Wait> {
     cache: AnswerCache<O, K>,
     /// The ticket and the length for which the port last looked at the book.
     last_look: PendingLook,
-    ghost fits: { (seat.gauge ≡ host.now) × (node ≤ host.now.words) },
+    ghost fits: { (seat.gauge ≡ host.now.gauge) × (node ≤ host.now.gauge.words) },
 }
 
 /// A look at the book: its ticket, whether that ticket is of the port's node, and the node's committed length just
@@ -82,7 +82,7 @@ impl<'a, O: Object, K: BookName<O::Alloc>, W: Wait> HostPort<'a, O, K, W> {
         seat: Seat<O::Alloc>,
         node: Proc,
     ) -> HostPort<'a, O, K, W>
-        requires { (seat.gauge ≡ host.now) × (node ≤ host.now.words) }
+        requires { (seat.gauge ≡ host.now.gauge) × (node ≤ host.now.gauge.words) }
         ensures node { result.node ≡ node }
         ensures asked { result.asked ≡ new_asked }
         ensures seat { result.seat ≡ seat }
@@ -117,13 +117,13 @@ impl<'a, O: Object, K: BookName<O::Alloc>, W: Wait> HostPort<'a, O, K, W> {
         seats: &mut Vec<Seat<O::Alloc>, O::Alloc>,
         number: u8,
     ) -> Result<HostPort<'a, O, K, W>, Fault>
-        requires { All (IsAt host.now) seats.old.items }
-        ensures seats { All (IsAt host.now) seats.new.items }
+        requires { All (IsAt host.now.gauge) seats.old.items }
+        ensures seats { All (IsAt host.now.gauge) seats.new.items }
         ensures port { IfOk result (λ port. (port.node ≡ number) × (port.asked ≡ new_asked)) }
         ensures last { IfOk result (λ port. seats.old.items ≡ seats.new.items ++ port.seat ∷ []) }
         ensures taken { OnOk result (length seats.old.items ≡ length seats.new.items + 1) }
         ensures kept { OnErr result (seats.new.items ≡ seats.old.items) }
-        ensures err { OnErr result (1 ≤ number → number ≤ 16 → number ≤ host.now.words → seats.old.items ≡ []) }
+        ensures err { OnErr result (1 ≤ number → number ≤ 16 → number ≤ host.now.gauge.words → seats.old.items ≡ []) }
         ensures refused { IfErr result (λ fault. fault ≡ NotMember) }
     {
         let node = host.proc(number)?;

@@ -242,8 +242,8 @@ fn alone_in<O: Object, K: BookName<O::Alloc>>(
     host: &Host<O, K>,
     seat: Seat<O::Alloc>,
 ) -> Result<Vec<Seat<O::Alloc>, O::Alloc>, Fault>
-    requires { IsAt host.now seat }
-    ensures { IfOk result (λ seats. All (IsAt host.now) seats.items) }
+    requires { IsAt host.now.gauge seat }
+    ensures { IfOk result (λ seats. All (IsAt host.now.gauge) seats.items) }
 {
     let _host = host;
     let mut seats = Vec::new(alloc);
@@ -259,7 +259,7 @@ fn run_seats<O: Object + Send, K: BookName<O::Alloc> + Send + Sync, W: Threads +
 ) -> Result<(), Fault>
 where
     O::Alloc: Send + Sync,
-    requires { All (IsAt host.now) seats.items }
+    requires { All (IsAt host.now.gauge) seats.items }
 {
     let mut seats = seats;
     host.run(rt, seats.as_mut_slice(), &OpenGate)
@@ -278,8 +278,8 @@ fn four_of<O: Object, K: BookName<O::Alloc>>(
     ),
     Fault,
 >
-    requires { All (IsAt host.now) seats.old.items }
-    ensures { IfOk result (λ four. IsAt host.now four.0 × IsAt host.now four.1 × IsAt host.now four.2 × IsAt host.now four.3) }
+    requires { All (IsAt host.now.gauge) seats.old.items }
+    ensures { IfOk result (λ four. IsAt host.now.gauge four.0 × IsAt host.now.gauge four.1 × IsAt host.now.gauge four.2 × IsAt host.now.gauge four.3) }
 {
     let fourth = last_seat(host, seats)?;
     let third = last_seat(host, seats)?;
@@ -293,9 +293,9 @@ pub fn last_seat<O: Object, K: BookName<O::Alloc>>(
     host: &Host<O, K>,
     seats: &mut Vec<Seat<O::Alloc>, O::Alloc>,
 ) -> Result<Seat<O::Alloc>, Fault>
-    requires { All (IsAt host.now) seats.old.items }
-    ensures seats { All (IsAt host.now) seats.new.items }
-    ensures seat { IfOk result (IsAt host.now) }
+    requires { All (IsAt host.now.gauge) seats.old.items }
+    ensures seats { All (IsAt host.now.gauge) seats.new.items }
+    ensures seat { IfOk result (IsAt host.now.gauge) }
 {
     match host.take_seat(seats) {
         Some(seat) => Ok(seat),
@@ -309,8 +309,8 @@ fn turn<O: Object, K: BookName<O::Alloc>, W: Wait>(
     host: &Host<O, K>,
     seat: &mut Seat<O::Alloc>,
 ) -> Result<Turn, Fault>
-    requires { IsAt host.now seat.old }
-    ensures { IsAt host.now seat.new }
+    requires { IsAt host.now.gauge seat.old }
+    ensures { IsAt host.now.gauge seat.new }
 {
     let Some(_node) = seat.node() else {
         return Err(Fault::NotMember);
@@ -320,8 +320,8 @@ fn turn<O: Object, K: BookName<O::Alloc>, W: Wait>(
 
 /// Counts turns of the seat until the timeout of this kind is due at the next one.
 fn pass<O: Object, K: BookName<O::Alloc>>(host: &Host<O, K>, seat: &mut Seat<O::Alloc>, kind: Kind)
-    requires { IsAt host.now seat.old }
-    ensures { IsAt host.now seat.new }
+    requires { IsAt host.now.gauge seat.old }
+    ensures { IsAt host.now.gauge seat.new }
 {
     for _ in 0..LONGEST {
         if left_of(seat.clock(), kind) <= 1 {

@@ -123,8 +123,8 @@ fn look<O: Object, K: BookName<O::Alloc>, W: Wait>(
     host: &Host<O, K>,
     seat: &mut Seat<O::Alloc>,
 ) -> Result<(bool, bool), Fault>
-    requires { IsAt host.now seat.old }
-    ensures { IsAt host.now seat.new }
+    requires { IsAt host.now.gauge seat.old }
+    ensures { IsAt host.now.gauge seat.new }
 {
     let node = host.proc(1)?;
     let (have_lines, is_answered) = host.read_book(rt, |book| lines_and_answer(book, node));
@@ -139,8 +139,8 @@ fn submit<O: Object, K: BookName<O::Alloc>, W: Wait>(
     host: &Host<O, K>,
     seat: &mut Seat<O::Alloc>,
 ) -> Result<HostTicket, Fault>
-    requires { IsAt host.now seat.old }
-    ensures { IsAt host.now seat.new }
+    requires { IsAt host.now.gauge seat.old }
+    ensures { IsAt host.now.gauge seat.new }
 {
     let node = host.proc(1)?;
     let call = add_of(alloc, 7, 1)?;
@@ -157,8 +157,8 @@ fn step<O: Object, K: BookName<O::Alloc>, W: Wait>(
     seat: &mut Seat<O::Alloc>,
     gate: &SteppingGate,
 )
-    requires { IsAt host.now seat.old }
-    ensures { IsAt host.now seat.new }
+    requires { IsAt host.now.gauge seat.old }
+    ensures { IsAt host.now.gauge seat.new }
 {
     if !gate.is_waiting.load(Ordering::SeqCst) {
         thread::yield_now();
@@ -183,7 +183,7 @@ fn watch<O: Object, K: BookName<O::Alloc>, W: Wait>(
     seat: Seat<O::Alloc>,
     gate: &SteppingGate,
 )
-    requires { IsAt host.now seat }
+    requires { IsAt host.now.gauge seat }
 {
     let mut seat = seat;
     for _ in 0..LOOKS {
@@ -208,18 +208,18 @@ fn run<O: Object + Send, K: BookName<O::Alloc> + Send + Sync, W: Threads + Wait 
 ) -> bool
 where
     O::Alloc: Send + Sync,
-    requires seats { All (IsAt host.now) seats.items }
-    requires seat { IsAt host.now seat }
+    requires seats { All (IsAt host.now.gauge) seats.items }
+    requires seat { IsAt host.now.gauge seat }
 {
     let ran = thread::scope(
         thread::scope_env(),
         rt,
         move |scope| -> Result<(), Fault>
-            requires seats { All (IsAt host.now) seats.items }
-            requires seat { IsAt host.now seat }
+            requires seats { All (IsAt host.now.gauge) seats.items }
+            requires seat { IsAt host.now.gauge seat }
         {
             let watched = move ||
-                requires { IsAt host.now seat }
+                requires { IsAt host.now.gauge seat }
             { watch(rt, alloc, host, seat, gate) };
             if scope.spawn(watched).is_err() {
                 gate.is_over.store(true, Ordering::SeqCst);

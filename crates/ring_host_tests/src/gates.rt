@@ -155,13 +155,13 @@ fn run<O: Object + Send, K: BookName<O::Alloc> + Send + Sync, W: Threads + Wait 
 ) -> bool
 where
     O::Alloc: Send + Sync,
-    requires { All (IsAt host.now) seats.items }
+    requires { All (IsAt host.now.gauge) seats.items }
 {
     let ran = thread::scope(
         thread::scope_env(),
         rt,
         move |scope| -> Result<(), Fault>
-            requires { All (IsAt host.now) seats.items }
+            requires { All (IsAt host.now.gauge) seats.items }
         {
             if scope.spawn(move || watch(rt, host, gate)).is_err() {
                 host.close();

@@ -77,7 +77,7 @@ pub(crate) fn run_live_client<O: Object, K: BookName<O::Alloc>, W: Wait>(
     running: &AtomicU64,
     live_client: &mut LiveClient<O::Alloc>,
 )
-    requires { HasSeats host.now live_client.old }
+    requires { HasSeats host.now.gauge live_client.old }
 {
     let counter = add_and_read_counter(rt, alloc, host, calls, running, &mut *live_client);
     live_client.counter = counter;
@@ -97,7 +97,7 @@ fn add_and_read_counter<O: Object, K: BookName<O::Alloc>, W: Wait>(
     running: &AtomicU64,
     live_client: &mut LiveClient<O::Alloc>,
 ) -> Result<u64, Fault>
-    requires { HasSeats host.now live_client.old }
+    requires { HasSeats host.now.gauge live_client.old }
 {
     let number = live_client.number;
     let seats = replace(&mut live_client.seats, Vec::new(alloc));

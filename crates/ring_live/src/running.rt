@@ -49,10 +49,10 @@ fn live_clients_of<O: Object, K: BookName<O::Alloc>>(
     seats: &mut Vec<Seat<O::Alloc>, O::Alloc>,
     nodes: u8,
 ) -> Result<Vec<LiveClient<O::Alloc>, O::Alloc>, Fault>
-    requires seats { AreSeats host.now nodes seats.old.items }
+    requires seats { AreSeats host.now.gauge nodes seats.old.items }
     requires enough { 16 * nodes ≤ length seats.old.items }
-    ensures seats { AreSeats host.now nodes seats.new.items }
-    ensures live_clients { IfOk result (λ live_clients. All (HasSeats host.now) live_clients.items) }
+    ensures seats { AreSeats host.now.gauge nodes seats.new.items }
+    ensures live_clients { IfOk result (λ live_clients. All (HasSeats host.now.gauge) live_clients.items) }
     ensures refused { IfErr result (λ fault. fault ≡ Memory) }
 {
     let mut live_clients = Vec::new(alloc);
@@ -86,8 +86,8 @@ fn run_all<
 ) -> Result<(), Fault>
 where
     O::Alloc: Send + Sync,
-    requires seats { All (IsAt host.now) seats.items }
-    requires live_clients { All (HasSeats host.now) live_clients.old }
+    requires seats { All (IsAt host.now.gauge) seats.items }
+    requires live_clients { All (HasSeats host.now.gauge) live_clients.old }
     ensures refused { IfErr result (λ fault. fault ≡ Memory) }
 {
     let refused = AtomicBool::new(false);
@@ -99,12 +99,12 @@ where
         thread::scope_env(),
         rt,
         move |scope|
-            requires seats { All (IsAt host.now) seats.items }
-            requires live_clients { All (HasSeats host.now) each.now }
+            requires seats { All (IsAt host.now.gauge) seats.items }
+            requires live_clients { All (HasSeats host.now.gauge) each.now }
         {
             for live_client in each {
                 let called = move ||
-                    requires { HasSeats host.now live_client.now }
+                    requires { HasSeats host.now.gauge live_client.now }
                 { run_live_client(rt, alloc, host, calls, left, live_client) };
                 if scope.spawn(called).is_err() {
                     stop_unstarted_run(rt, host, told);
@@ -255,7 +255,7 @@ fn run_on_host<O: Object + Send, K: BookName<O::Alloc> + Send + Sync, W: Threads
 ) -> Result<LiveResult, Fault>
 where
     O::Alloc: Send + Sync,
-    requires seats { AreSeats host.now nodes seats.items }
+    requires seats { AreSeats host.now.gauge nodes seats.items }
     requires enough { 16 * nodes ≤ length seats.items }
     ensures live_result { IfOk result (λ live_result. (live_result.nodes ≡ nodes) × (live_result.is_legal ≡ true)) }
     ensures refused { IfErr result (λ fault. fault ≡ Memory) }

@@ -6,9 +6,9 @@ use Rattle.ring_host_port.proofs.clients.append_port_to_each_node.Given as goal
 
 abbrev pub invariant-loop-passed : goal.invariant-loop-passed
 invariant-loop-passed g l = record {
-  at : All (IsAt l.host) l.seats.items;
-  left : length l.seats.items + l.passed ≡ l.host.words;
+  at : All (IsAt l.host.gauge) l.seats.items;
+  left : length l.seats.items + l.passed ≡ l.host.gauge.words;
   long : length l.ports.items ≡ l.passed;
-  order : (k : ℕ) (port : _) → slice_get l.ports.items k ≡ Some port → port.node ≡ node_after l.host.words l.first k;
+  order : (k : ℕ) (port : _) → slice_get l.ports.items k ≡ Some port → port.node ≡ node_after l.host.gauge.words l.first k;
   fresh : (k : ℕ) (port : _) → slice_get l.ports.items k ≡ Some port → port.asked ≡ new_asked;
 }

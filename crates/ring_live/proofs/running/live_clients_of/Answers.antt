@@ -17,6 +17,6 @@ loop-before-preserved g c =
       c.take_seats.ensures.seats,
       left l.seats.items c.take_seats.new.seats.items c.in_ok-own.own.items c.args.nodes l.before l.invariant.0.few l.invariant.1
           c.in_ok-own.ensures.taken (sym c.in_ok-own.ensures.own.words ∙ l.invariant.0.words),
-      pushed (HasSeats c.args.host.now) l.live_clients.items c.push.new.self.items c.new-live_client.result l.invariant.2
+      pushed (HasSeats c.args.host.now.gauge) l.live_clients.items c.push.new.self.items c.new-live_client.result l.invariant.2
           (record { seats = rw c.new-live_client.ensures c.in_ok-own.ensures.own }) (search rules),
     )
