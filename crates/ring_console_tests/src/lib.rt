@@ -25,4 +25,6 @@ mod partition;
 #[cfg(test)]
 mod printed;
 #[cfg(test)]
+mod refused_checks;
+#[cfg(test)]
 mod scripts;
