@@ -4,6 +4,9 @@
 //!
 //! Formats: The command line
 
+ghost use Rattle.std.specs.Prelude.{◌≡◌};
+ghost use Rattle.ring_trace_picture.specs.PictureTexts.{picture_width};
+
 use ring_base::{MAX_PROCESSORS, Proc};
 
 /// The width of a column.
@@ -176,7 +179,9 @@ impl Canvas {
     }
 
     /// Returns the width of the picture, 1,200 points.
-    pub fn width(self) -> u64 {
+    pub fn width(self) -> u64
+        ensures { result ≡ picture_width }
+    {
         WIDTH
     }
 
