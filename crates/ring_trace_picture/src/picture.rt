@@ -2,10 +2,10 @@
 //!
 //! Formats: The command line
 
-ghost use Rattle.std.specs.Prelude.{◌≡◌, OnOk, OnErr, IfErr};
+ghost use Rattle.std.specs.Prelude.{◌≡◌, ◌≤◌, ◌+◌, OnOk, OnErr, IfErr};
 ghost use Rattle.ring_base.specs.declared.fault.Fault.TheVariants.{Memory};
 ghost use Rattle.ring_trace_picture.specs.PictureModels.{opening_picture, column_begun, mark_added};
-ghost use Rattle.ring_trace_picture.specs.PictureTexts.{IsGrown, HasPicture};
+ghost use Rattle.ring_trace_picture.specs.PictureTexts.{IsGrown, HasPicture, lanes_of};
 
 use crate::bands::write_band;
 use crate::call_arcs::{ArcEnd, CallArc, CallArcs};
@@ -150,10 +150,10 @@ impl<A: Allocator + Copy> Picture<A> {
     ///
     /// Formats: The command line
     pub fn write<W: Write>(&self, out: &mut W, last: u64) -> io::Result<()>
-        ensures { OnOk result (HasPicture (W.contents out.old) (W.contents out.new)) }
+        ensures { OnOk result (HasPicture self.now (W.contents out.old) (W.contents out.new)) }
     {
         let canvas = self.canvas();
-        write_head(out, canvas)?;
+        write_head(out, canvas.width(), canvas.height())?;
         self.write_bands(out, canvas)?;
         write_legend(out, canvas)?;
         if let Some(event) = self.first_left_out {
@@ -179,7 +179,11 @@ impl<A: Allocator + Copy> Picture<A> {
     }
 
     /// Returns the size of the picture.
-    fn canvas(&self) -> Canvas {
+    fn canvas(&self) -> Canvas
+        ensures columns { result.columns ≡ self.now.columns + 1 }
+        ensures bound { result.columns ≤ 2001 }
+        ensures lanes { result.lanes ≡ lanes_of self.now }
+    {
         let columns = self.columns.saturating_add(1);
         match self.only_lane {
             Some(only) => Canvas {

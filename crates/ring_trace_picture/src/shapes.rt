@@ -24,16 +24,15 @@ const BASE: u64 = 12;
 /// The approximate width of a letter.
 pub(crate) const LETTER: u64 = 6;
 
-/// Opens the picture, and defines the hatching of rings that aren't primary: a gradient, which is drawn faster than a
+/// Opens a picture of this size, and defines the hatching of rings that aren't primary: a gradient, which is drawn faster than a
 /// pattern.
 ///
 /// Errors: any error of `out`. How much has been written is then unspecified.
 ///
 /// Formats: The command line
-pub(crate) fn write_head<W: Write>(out: &mut W, canvas: Canvas) -> io::Result<()>
-    ensures { OnOk result (IsOpened (W.contents out.old) (W.contents out.new)) }
+pub(crate) fn write_head<W: Write>(out: &mut W, width: u64, height: u64) -> io::Result<()>
+    ensures { OnOk result (IsOpened width height (W.contents out.old) (W.contents out.new)) }
 {
-    let (width, height) = (canvas.width(), canvas.height());
     write_opening_line(out, width, height)?;
     write_background(out, width, height)
 }

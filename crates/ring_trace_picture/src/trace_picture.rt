@@ -281,7 +281,7 @@ impl<A: Allocator + Copy> TracePicture<A> {
     ///
     /// Formats: The command line
     pub fn print<W: Write>(&self, out: &mut W, last: u64) -> Result<(), Failure>
-        ensures printed { OnOk result (HasPicture (W.contents out.old) (W.contents out.new)) }
+        ensures printed { OnOk result (HasPicture self.now.picture (W.contents out.old) (W.contents out.new)) }
         ensures failed { IfErr result IsOutputOrMemory }
     {
         match self.picture.write(out, last) {
