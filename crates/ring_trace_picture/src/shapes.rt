@@ -24,8 +24,8 @@ const BASE: u64 = 12;
 /// The approximate width of a letter.
 pub(crate) const LETTER: u64 = 6;
 
-/// Opens a picture of this size, and defines the hatching of rings that aren't primary: a gradient, which is drawn faster than a
-/// pattern.
+/// Opens a picture of this size, and defines the hatching of rings that aren't primary: a gradient, which is drawn
+/// faster than a pattern.
 ///
 /// Errors: any error of `out`. How much has been written is then unspecified.
 ///
@@ -98,7 +98,7 @@ pub(crate) fn write_columns_head<W: Write>(
     write_view(out, (begin, 0), (begin, width), canvas.bottom())
 }
 
-/// Opens a view at `place` that shows the strip from the beginning of `span` on, with the width of `span` and this height.
+/// Opens a view at `place` that shows a span of the strip, given by its left edge and its width, in this height.
 fn write_view<W: Write>(
     out: &mut W,
     place: (u64, u64),
