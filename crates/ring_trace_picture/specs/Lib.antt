@@ -1,2 +1,3 @@
 pub mod TracePictures
 pub mod PictureModels
+pub mod PictureTexts

@@ -2,6 +2,9 @@
 //!
 //! Formats: The command line
 
+ghost use Rattle.std.specs.Prelude.{OnOk};
+ghost use Rattle.ring_trace_picture.specs.PictureTexts.{IsGrown};
+
 use crate::call_arcs::CallArc;
 use crate::canvas::{Band, Canvas};
 use crate::labels::LabelRows;
@@ -27,7 +30,9 @@ pub(crate) fn write_band<W: Write, A: Allocator>(
     band: Band,
     placed: &[PlacedMark],
     arcs: &[CallArc<A>],
-) -> io::Result<()> {
+) -> io::Result<()>
+    ensures { OnOk result (IsGrown (W.contents out.old) (W.contents out.new)) }
+{
     for before in 0..canvas.lanes {
         write_name(out, canvas, band, canvas.node(before))?;
     }
@@ -51,7 +56,9 @@ fn write_folds<W: Write>(
     canvas: Canvas,
     band: Band,
     placed: &[PlacedMark],
-) -> io::Result<()> {
+) -> io::Result<()>
+    ensures { OnOk result (IsGrown (W.contents out.old) (W.contents out.new)) }
+{
     for placed in placed {
         if let PictureMark::Rounds(_) = &placed.mark
             && band.has_column(placed.column)
@@ -69,7 +76,9 @@ fn write_arcs<W: Write, A: Allocator>(
     band: Band,
     lane: Proc,
     arcs: &[CallArc<A>],
-) -> io::Result<()> {
+) -> io::Result<()>
+    ensures { OnOk result (IsGrown (W.contents out.old) (W.contents out.new)) }
+{
     write_columns_head(out, canvas, band)?;
     for arc in arcs {
         let to = arc.to.unwrap_or(canvas.columns);
@@ -87,7 +96,9 @@ fn write_call_names<W: Write, A: Allocator>(
     band: Band,
     lane: Proc,
     arcs: &[CallArc<A>],
-) -> io::Result<()> {
+) -> io::Result<()>
+    ensures { OnOk result (IsGrown (W.contents out.old) (W.contents out.new)) }
+{
     let mut rows = LabelRows::new();
     for arc in arcs {
         if arc.node == lane && band.has_column(arc.from) {
@@ -129,7 +140,9 @@ fn write_lengths<W: Write>(
     band: Band,
     lane: Proc,
     placed: &[PlacedMark],
-) -> io::Result<()> {
+) -> io::Result<()>
+    ensures { OnOk result (IsGrown (W.contents out.old) (W.contents out.new)) }
+{
     let mut rows = LabelRows::new();
     for placed in placed {
         let column = placed.column;
@@ -155,7 +168,9 @@ fn write_walls<W: Write>(
     canvas: Canvas,
     band: Band,
     placed: &[PlacedMark],
-) -> io::Result<()> {
+) -> io::Result<()>
+    ensures { OnOk result (IsGrown (W.contents out.old) (W.contents out.new)) }
+{
     let mut rows = LabelRows::new();
     for placed in placed {
         if band.has_column(placed.column) {
@@ -172,7 +187,9 @@ fn write_wall_mark<W: Write>(
     band: Band,
     placed: &PlacedMark,
     rows: &mut LabelRows,
-) -> io::Result<()> {
+) -> io::Result<()>
+    ensures { OnOk result (IsGrown (W.contents out.old) (W.contents out.new)) }
+{
     let column = placed.column;
     match &placed.mark {
         PictureMark::Cut => write_wall(out, canvas, column, "#cc0000"),
@@ -221,7 +238,9 @@ fn write_feet<W: Write>(
     canvas: Canvas,
     band: Band,
     placed: &[PlacedMark],
-) -> io::Result<()> {
+) -> io::Result<()>
+    ensures { OnOk result (IsGrown (W.contents out.old) (W.contents out.new)) }
+{
     for placed in placed {
         let column = placed.column;
         match &placed.mark {

@@ -4,6 +4,9 @@
 //!
 //! Formats: The command line
 
+ghost use Rattle.std.specs.Prelude.{◌≡◌, ◌≤◌, ◌+◌, ◌-◌, ◌*◌, ◌/◌};
+ghost use Rattle.ring_trace_picture.specs.PictureTexts.{picture_width, picture_height};
+
 use ring_base::{MAX_PROCESSORS, Proc};
 
 /// The width of a column.
@@ -103,19 +106,25 @@ impl Canvas {
     }
 
     /// Returns the lower edge of the last lane, in the strip and in a band, in points.
-    pub fn lanes_bottom(self) -> u64 {
+    pub fn lanes_bottom(self) -> u64
+        ensures { result ≡ 56 * self.lanes + 24 }
+    {
         u64::from(self.lanes)
             .saturating_mul(LANE)
             .saturating_add(SPACE_ABOVE_LANES)
     }
 
     /// Returns the height of the strip, which is also that of a band, in points.
-    pub fn bottom(self) -> u64 {
+    pub fn bottom(self) -> u64
+        ensures { result ≡ 56 * self.lanes + 74 }
+    {
         self.lanes_bottom().saturating_add(SPACE_BELOW_LANES)
     }
 
     /// Returns the number of bands, at least 1.
-    pub fn bands(self) -> u64 {
+    pub fn bands(self) -> u64
+        ensures { result ≡ (self.columns - 1) / 66 + 1 }
+    {
         (self.columns.saturating_sub(1) / MAX_BAND_COLUMNS).saturating_add(1)
     }
 
@@ -171,17 +180,23 @@ impl Canvas {
     }
 
     /// Returns the upper edge of the legend, which is below all bands, in points.
-    pub fn legend(self) -> u64 {
+    pub fn legend(self) -> u64
+        ensures { self.columns ≤ 2001 → result ≡ (56 * self.lanes + 74) * ((self.columns - 1) / 66 + 1) }
+    {
         self.bottom().saturating_mul(self.bands())
     }
 
     /// Returns the width of the picture, 1,200 points.
-    pub fn width(self) -> u64 {
+    pub fn width(self) -> u64
+        ensures { result ≡ picture_width }
+    {
         WIDTH
     }
 
     /// Returns the height of the picture, in points.
-    pub fn height(self) -> u64 {
+    pub fn height(self) -> u64
+        ensures { self.columns ≤ 2001 → result ≡ picture_height self.lanes (self.columns - 1) }
+    {
         self.legend().saturating_add(LEGEND)
     }
 }

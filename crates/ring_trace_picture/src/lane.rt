@@ -2,6 +2,9 @@
 //!
 //! Formats: The command line
 
+ghost use Rattle.std.specs.Prelude.{OnOk};
+ghost use Rattle.ring_trace_picture.specs.PictureTexts.{IsGrown};
+
 use crate::bands::set_text_width;
 use crate::canvas::{Band, Canvas};
 use crate::mark::{LaneColour, PictureMark, PlacedMark};
@@ -39,7 +42,9 @@ pub(crate) fn write_lane<W: Write>(
     band: Band,
     lane: Proc,
     placed: &[PlacedMark],
-) -> io::Result<()> {
+) -> io::Result<()>
+    ensures { OnOk result (IsGrown (W.contents out.old) (W.contents out.new)) }
+{
     let mut last = LaneBox {
         colour: LaneColour::State(State::Gather),
         ring: None,
@@ -75,7 +80,9 @@ fn write_last_box<W: Write>(
     lane: Proc,
     last: LaneBox,
     label: &mut Option<RingLabel>,
-) -> io::Result<()> {
+) -> io::Result<()>
+    ensures { OnOk result (IsGrown (W.contents out.old) (W.contents out.new)) }
+{
     if last.colour == LaneColour::State(State::Stopped) {
         if band.has_column(last.first_column) {
             write_stop(out, canvas, lane, last.first_column)?;
@@ -100,7 +107,9 @@ fn write_lane_box<W: Write>(
     lane_box: LaneBox,
     to: u64,
     label: &mut Option<RingLabel>,
-) -> io::Result<()> {
+) -> io::Result<()>
+    ensures { OnOk result (IsGrown (W.contents out.old) (W.contents out.new)) }
+{
     let from = lane_box.first_column.max(band.begin);
     let to = to.min(band.end);
     if from >= to {
@@ -125,7 +134,9 @@ fn write_label<W: Write>(
     lane: Proc,
     label: &Option<RingLabel>,
     end: u64,
-) -> io::Result<()> {
+) -> io::Result<()>
+    ensures { OnOk result (IsGrown (W.contents out.old) (W.contents out.new)) }
+{
     let Some(RingLabel { ring, column }) = *label else {
         return Ok(());
     };

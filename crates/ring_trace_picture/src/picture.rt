@@ -2,9 +2,10 @@
 //!
 //! Formats: The command line
 
-ghost use Rattle.std.specs.Prelude.{◌≡◌, OnOk, OnErr, IfErr};
+ghost use Rattle.std.specs.Prelude.{◌≡◌, ◌≤◌, ◌+◌, OnOk, OnErr, IfErr};
 ghost use Rattle.ring_base.specs.declared.fault.Fault.TheVariants.{Memory};
 ghost use Rattle.ring_trace_picture.specs.PictureModels.{opening_picture, column_begun, mark_added};
+ghost use Rattle.ring_trace_picture.specs.PictureTexts.{IsGrown, HasPicture, lanes_of};
 
 use crate::bands::write_band;
 use crate::call_arcs::{ArcEnd, CallArc, CallArcs};
@@ -141,16 +142,30 @@ impl<A: Allocator + Copy> Picture<A> {
         }
     }
 
-    /// Writes the picture as SVG.
+    /// Writes the picture as SVG: one element `svg`, and a line feed.
     ///
     /// If events are left out, it names the first of them and `last`, the last requested event.
     ///
     /// Errors: any error of `out`. How much has been written is then unspecified.
     ///
     /// Formats: The command line
-    pub fn write<W: Write>(&self, out: &mut W, last: u64) -> io::Result<()> {
+    pub fn write<W: Write>(&self, out: &mut W, last: u64) -> io::Result<()>
+        ensures { OnOk result (HasPicture self.now (W.contents out.old) (W.contents out.new)) }
+    {
         let canvas = self.canvas();
-        write_head(out, canvas)?;
+        write_head(out, canvas.width(), canvas.height())?;
+        self.write_bands(out, canvas)?;
+        write_legend(out, canvas)?;
+        if let Some(event) = self.first_left_out {
+            write_rest(out, canvas, event, last)?;
+        }
+        write_end(out)
+    }
+
+    /// Writes the bands, one below the other.
+    fn write_bands<W: Write>(&self, out: &mut W, canvas: Canvas) -> io::Result<()>
+        ensures { OnOk result (IsGrown (W.contents out.old) (W.contents out.new)) }
+    {
         for index in 0..canvas.bands() {
             write_band(
                 out,
@@ -160,15 +175,15 @@ impl<A: Allocator + Copy> Picture<A> {
                 self.arcs.arcs(),
             )?;
         }
-        write_legend(out, canvas)?;
-        if let Some(event) = self.first_left_out {
-            write_rest(out, canvas, event, last)?;
-        }
-        write_end(out)
+        Ok(())
     }
 
     /// Returns the size of the picture.
-    fn canvas(&self) -> Canvas {
+    fn canvas(&self) -> Canvas
+        ensures columns { result.columns ≡ self.now.columns + 1 }
+        ensures bound { result.columns ≤ 2001 }
+        ensures lanes { result.lanes ≡ lanes_of self.now }
+    {
         let columns = self.columns.saturating_add(1);
         match self.only_lane {
             Some(only) => Canvas {

@@ -2,6 +2,10 @@
 //!
 //! Formats: The command line
 
+ghost use Rattle.std.specs.Prelude.{OnOk, IfSome};
+ghost use Rattle.std.specs.Io.KnownBytes.{Appends};
+ghost use Rattle.ring_trace_picture.specs.PictureTexts.{IsGrown, IsOpened, opening_line, closing_line};
+
 use crate::call_arcs::{ArcEnd, CallArc};
 use crate::canvas::{Band, Canvas};
 use crate::labels::LabelRow;
@@ -20,19 +24,34 @@ const BASE: u64 = 12;
 /// The approximate width of a letter.
 pub(crate) const LETTER: u64 = 6;
 
-/// Opens the picture, and defines the hatching of rings that aren't primary: a gradient, which is drawn faster than a
-/// pattern.
+/// Opens a picture of this size, and defines the hatching of rings that aren't primary: a gradient, which is drawn
+/// faster than a pattern.
 ///
 /// Errors: any error of `out`. How much has been written is then unspecified.
 ///
 /// Formats: The command line
-pub(crate) fn write_head<W: Write>(out: &mut W, canvas: Canvas) -> io::Result<()> {
-    let (width, height) = (canvas.width(), canvas.height());
+pub(crate) fn write_head<W: Write>(out: &mut W, width: u64, height: u64) -> io::Result<()>
+    ensures { OnOk result (IsOpened width height (W.contents out.old) (W.contents out.new)) }
+{
+    write_opening_line(out, width, height)?;
+    write_background(out, width, height)
+}
+
+/// Opens a picture of this size.
+fn write_opening_line<W: Write>(out: &mut W, width: u64, height: u64) -> io::Result<()>
+    ensures { OnOk result (Appends (W.contents out.old) (W.contents out.new) (opening_line width height)) }
+{
     writeln!(
         out,
         "<svg xmlns=\"http://www.w3.org/2000/svg\" viewBox=\"0 0 {width} {height}\" width=\"{width}pt\" height=\"{height}pt\" \
          font-family=\"sans-serif\" font-size=\"10\">"
-    )?;
+    )
+}
+
+/// Writes a white background of this size, and defines the hatching.
+fn write_background<W: Write>(out: &mut W, width: u64, height: u64) -> io::Result<()>
+    ensures { OnOk result (IsGrown (W.contents out.old) (W.contents out.new)) }
+{
     writeln!(
         out,
         "<rect width=\"{width}\" height=\"{height}\" fill=\"#ffffff\"/>\n\
@@ -49,7 +68,9 @@ pub(crate) fn write_head<W: Write>(out: &mut W, canvas: Canvas) -> io::Result<()
 /// Errors: any error of `out`. How much has been written is then unspecified.
 ///
 /// Formats: The command line
-pub(crate) fn write_band_head<W: Write>(out: &mut W, canvas: Canvas, band: Band) -> io::Result<()> {
+pub(crate) fn write_band_head<W: Write>(out: &mut W, canvas: Canvas, band: Band) -> io::Result<()>
+    ensures { OnOk result (IsGrown (W.contents out.old) (W.contents out.new)) }
+{
     write_view(
         out,
         (canvas.bands_left_edge(), canvas.band_top(band)),
@@ -69,19 +90,25 @@ pub(crate) fn write_columns_head<W: Write>(
     out: &mut W,
     canvas: Canvas,
     band: Band,
-) -> io::Result<()> {
+) -> io::Result<()>
+    ensures { OnOk result (IsGrown (W.contents out.old) (W.contents out.new)) }
+{
     let begin = canvas.x(band.begin);
     let width = canvas.x(band.end).saturating_sub(begin);
     write_view(out, (begin, 0), (begin, width), canvas.bottom())
 }
 
-/// Opens a view at (`x`, `y`) that shows the strip from `begin` on, with this width and height.
+/// Opens a view at `place` that shows a span of the strip, given by its left edge and its width, in this height.
 fn write_view<W: Write>(
     out: &mut W,
-    (x, y): (u64, u64),
-    (begin, width): (u64, u64),
+    place: (u64, u64),
+    span: (u64, u64),
     height: u64,
-) -> io::Result<()> {
+) -> io::Result<()>
+    ensures { OnOk result (IsGrown (W.contents out.old) (W.contents out.new)) }
+{
+    let (x, y) = place;
+    let (begin, width) = span;
     writeln!(
         out,
         "<svg x=\"{x}\" y=\"{y}\" width=\"{width}\" height=\"{height}\" viewBox=\"{begin} 0 {width} {height}\">"
@@ -93,7 +120,9 @@ fn write_view<W: Write>(
 /// Errors: any error of `out`. How much has been written is then unspecified.
 ///
 /// Formats: The command line
-pub(crate) fn write_end<W: Write>(out: &mut W) -> io::Result<()> {
+pub(crate) fn write_end<W: Write>(out: &mut W) -> io::Result<()>
+    ensures { OnOk result (Appends (W.contents out.old) (W.contents out.new) closing_line) }
+{
     writeln!(out, "</svg>")
 }
 
@@ -109,16 +138,49 @@ fn fill_of(colour: LaneColour) -> &'static str {
     }
 }
 
-/// Writes text at (`x`, `y`).
+/// Writes text at `place`, its left end and its base line.
 ///
 /// `style` has further attributes, each with a space before it.
 fn write_text<W: Write, D: Display + Drop>(
     out: &mut W,
-    (x, y): (u64, u64),
+    place: (u64, u64),
     style: &str,
     words: D,
-) -> io::Result<()> {
+) -> io::Result<()>
+    ensures { OnOk result (IfSome (D.output words) (λ text. IsGrown (W.contents out.old) (W.contents out.new))) }
+{
+    let (x, y) = place;
     writeln!(out, "<text x=\"{x}\" y=\"{y}\"{style}>{words}</text>")
+}
+
+/// Opens a text as `write_text` does.
+///
+/// Its words follow.
+fn write_text_head<W: Write>(out: &mut W, place: (u64, u64), style: &str) -> io::Result<()>
+    ensures { OnOk result (IsGrown (W.contents out.old) (W.contents out.new)) }
+{
+    let (x, y) = place;
+    write!(out, "<text x=\"{x}\" y=\"{y}\"{style}>")
+}
+
+/// Closes a text after its words.
+fn write_text_end<W: Write>(out: &mut W) -> io::Result<()>
+    ensures { OnOk result (IsGrown (W.contents out.old) (W.contents out.new)) }
+{
+    writeln!(out, "</text>")
+}
+
+/// Writes a set: the numbers of its members in ascending order, separated by commas, in braces.
+fn write_set<W: Write>(out: &mut W, set: ProcSet) -> io::Result<()>
+    ensures { OnOk result (IsGrown (W.contents out.old) (W.contents out.new)) }
+{
+    write!(out, "{{")?;
+    let mut separator = "";
+    for node in set.iter() {
+        write!(out, "{separator}{node}")?;
+        separator = ",";
+    }
+    write!(out, "}}")
 }
 
 /// Writes a node's name, left of the node's lane in a band.
@@ -131,7 +193,9 @@ pub(crate) fn write_name<W: Write>(
     canvas: Canvas,
     band: Band,
     node: Proc,
-) -> io::Result<()> {
+) -> io::Result<()>
+    ensures { OnOk result (IsGrown (W.contents out.old) (W.contents out.new)) }
+{
     let lane = canvas.band_top(band).saturating_add(canvas.y(node));
     let y = lane.saturating_add(BASE);
     write_text(
@@ -154,20 +218,26 @@ pub(crate) fn write_bar<W: Write>(
     colour: LaneColour,
     from: u64,
     to: u64,
-) -> io::Result<()> {
+) -> io::Result<()>
+    ensures { OnOk result (IsGrown (W.contents out.old) (W.contents out.new)) }
+{
     let x = canvas.x(from);
     let width = canvas.x(to).saturating_sub(x);
     write_box(out, (x, canvas.y(node)), width, colour)?;
     writeln!(out)
 }
 
-/// Writes a box of a bar's height, filled with this colour, without the end of its line.
+/// Writes a box of a bar's height at `place`, its left edge and its upper edge, filled with this colour, without the
+/// end of its line.
 fn write_box<W: Write>(
     out: &mut W,
-    (x, y): (u64, u64),
+    place: (u64, u64),
     width: u64,
     colour: LaneColour,
-) -> io::Result<()> {
+) -> io::Result<()>
+    ensures { OnOk result (IsGrown (W.contents out.old) (W.contents out.new)) }
+{
+    let (x, y) = place;
     let fill = fill_of(colour);
     write!(
         out,
@@ -185,7 +255,9 @@ pub(crate) fn write_stop<W: Write>(
     canvas: Canvas,
     node: Proc,
     column: u64,
-) -> io::Result<()> {
+) -> io::Result<()>
+    ensures { OnOk result (IsGrown (W.contents out.old) (W.contents out.new)) }
+{
     let (x, y) = (canvas.x(column), canvas.y(node));
     let (top, height) = (y.saturating_sub(4), BAR + 8);
     let beside = (x.saturating_add(8), y.saturating_add(BASE));
@@ -207,21 +279,26 @@ pub(crate) fn write_ring<W: Write>(
     out: &mut W,
     canvas: Canvas,
     node: Proc,
-    (ring, members): (RingId, ProcSet),
+    ring: (RingId, ProcSet),
     column: u64,
     has_members: bool,
-) -> io::Result<()> {
+) -> io::Result<()>
+    ensures { OnOk result (IsGrown (W.contents out.old) (W.contents out.new)) }
+{
     let place = (
         canvas.x(column).saturating_add(3),
         canvas.y(node).saturating_add(BASE),
     );
     let halo =
         " stroke=\"#ffffff\" stroke-width=\"2\" stroke-opacity=\"0.7\" paint-order=\"stroke\"";
+    let (name, members) = ring;
+    write_text_head(out, place, halo)?;
+    write!(out, "{name}")?;
     if has_members {
-        write_text(out, place, halo, format_args!("{ring} {{{members}}}"))
-    } else {
-        write_text(out, place, halo, ring)
+        write!(out, " ")?;
+        write_set(out, members)?;
     }
+    write_text_end(out)
 }
 
 /// Writes a node's committed length below the node's bar, in this column.
@@ -235,7 +312,9 @@ pub(crate) fn write_committed<W: Write>(
     node: Proc,
     length: u64,
     column: u64,
-) -> io::Result<()> {
+) -> io::Result<()>
+    ensures { OnOk result (IsGrown (W.contents out.old) (W.contents out.new)) }
+{
     let y = canvas.y(node).saturating_add(BAR + BASE - 1);
     write_text(out, (canvas.x(column), y), " fill=\"#674ea7\"", length)
 }
@@ -250,7 +329,9 @@ pub(crate) fn write_trimmed<W: Write>(
     canvas: Canvas,
     node: Proc,
     column: u64,
-) -> io::Result<()> {
+) -> io::Result<()>
+    ensures { OnOk result (IsGrown (W.contents out.old) (W.contents out.new)) }
+{
     let (x, y) = (
         canvas.x(column),
         canvas.y(node).saturating_add(BAR + BASE + 1),
@@ -272,7 +353,9 @@ pub(crate) fn write_call_name<W: Write, A: Allocator>(
     arc: &CallArc<A>,
     x: u64,
     row: LabelRow,
-) -> io::Result<()> {
+) -> io::Result<()>
+    ensures { OnOk result (IsGrown (W.contents out.old) (W.contents out.new)) }
+{
     let above = if row == LabelRow::Upper { 22 } else { 13 };
     let y = canvas.y(arc.node).saturating_sub(above);
     let (client, number) = (arc.client, arc.number);
@@ -296,7 +379,9 @@ pub(crate) fn write_call<W: Write, A: Allocator>(
     out: &mut W,
     canvas: Canvas,
     arc: &CallArc<A>,
-) -> io::Result<()> {
+) -> io::Result<()>
+    ensures { OnOk result (IsGrown (W.contents out.old) (W.contents out.new)) }
+{
     let stroke = stroke_of(arc.end);
     let to = arc.to.unwrap_or(canvas.columns);
     let (x, end, y) = (canvas.x(arc.from), canvas.x(to), canvas.y(arc.node));
@@ -321,7 +406,9 @@ fn stroke_of(end: ArcEnd) -> &'static str {
 }
 
 /// Writes the mark at the end of an arc, if it has one.
-fn write_arc_end<W: Write>(out: &mut W, end: ArcEnd, x: u64, y: u64) -> io::Result<()> {
+fn write_arc_end<W: Write>(out: &mut W, end: ArcEnd, x: u64, y: u64) -> io::Result<()>
+    ensures { OnOk result (IsGrown (W.contents out.old) (W.contents out.new)) }
+{
     let stroke = stroke_of(end);
     match end {
         ArcEnd::Waiting | ArcEnd::Done => Ok(()),
@@ -343,7 +430,9 @@ fn write_arc_end<W: Write>(out: &mut W, end: ArcEnd, x: u64, y: u64) -> io::Resu
 }
 
 /// Writes a shape's title, which a browser shows when the pointer is on the shape.
-fn write_title<W: Write>(out: &mut W, words: &str) -> io::Result<()> {
+fn write_title<W: Write>(out: &mut W, words: &str) -> io::Result<()>
+    ensures { OnOk result (IsGrown (W.contents out.old) (W.contents out.new)) }
+{
     write!(out, "<title>")?;
     for letter in words.chars() {
         match letter {
@@ -365,7 +454,9 @@ pub(crate) fn write_wall<W: Write>(
     canvas: Canvas,
     column: u64,
     stroke: &str,
-) -> io::Result<()> {
+) -> io::Result<()>
+    ensures { OnOk result (IsGrown (W.contents out.old) (W.contents out.new)) }
+{
     let (x, foot) = (canvas.x(column), canvas.lanes_bottom());
     writeln!(
         out,
@@ -383,13 +474,12 @@ pub(crate) fn write_side<W: Write>(
     x: u64,
     side: ProcSet,
     row: LabelRow,
-) -> io::Result<()> {
-    write_text(
-        out,
-        (x, base_of(row)),
-        " fill=\"#cc0000\"",
-        format_args!("{{{side}}}"),
-    )
+) -> io::Result<()>
+    ensures { OnOk result (IsGrown (W.contents out.old) (W.contents out.new)) }
+{
+    write_text_head(out, (x, base_of(row)), " fill=\"#cc0000\"")?;
+    write_set(out, side)?;
+    write_text_end(out)
 }
 
 /// Writes the word `heals` at `x`, at the top of the wall for the end of a cut.
@@ -397,7 +487,9 @@ pub(crate) fn write_side<W: Write>(
 /// Errors: any error of `out`. How much has been written is then unspecified.
 ///
 /// Formats: The command line
-pub(crate) fn write_heal<W: Write>(out: &mut W, x: u64, row: LabelRow) -> io::Result<()> {
+pub(crate) fn write_heal<W: Write>(out: &mut W, x: u64, row: LabelRow) -> io::Result<()>
+    ensures { OnOk result (IsGrown (W.contents out.old) (W.contents out.new)) }
+{
     write_text(out, (x, base_of(row)), " fill=\"#38761d\"", "heals")
 }
 
@@ -411,7 +503,9 @@ fn base_of(row: LabelRow) -> u64 {
 /// Errors: any error of `out`. How much has been written is then unspecified.
 ///
 /// Formats: The command line
-pub(crate) fn write_fold<W: Write>(out: &mut W, canvas: Canvas, column: u64) -> io::Result<()> {
+pub(crate) fn write_fold<W: Write>(out: &mut W, canvas: Canvas, column: u64) -> io::Result<()>
+    ensures { OnOk result (IsGrown (W.contents out.old) (W.contents out.new)) }
+{
     let (x, width, foot) = (canvas.x(column), canvas.x(1), canvas.lanes_bottom());
     let height = foot.saturating_sub(20);
     writeln!(
@@ -432,7 +526,9 @@ pub(crate) fn write_rounds<W: Write>(
     canvas: Canvas,
     column: u64,
     rounds: u64,
-) -> io::Result<()> {
+) -> io::Result<()>
+    ensures { OnOk result (IsGrown (W.contents out.old) (W.contents out.new)) }
+{
     if rounds == 0 {
         return Ok(());
     }
@@ -452,7 +548,9 @@ pub(crate) fn write_lost<W: Write>(
     canvas: Canvas,
     column: u64,
     lost: u64,
-) -> io::Result<()> {
+) -> io::Result<()>
+    ensures { OnOk result (IsGrown (W.contents out.old) (W.contents out.new)) }
+{
     if lost == 0 {
         return Ok(());
     }
@@ -473,7 +571,9 @@ pub(crate) fn write_event<W: Write>(
     canvas: Canvas,
     column: u64,
     event: u64,
-) -> io::Result<()> {
+) -> io::Result<()>
+    ensures { OnOk result (IsGrown (W.contents out.old) (W.contents out.new)) }
+{
     if event >= 100_000 && column % 4 >= 2 {
         return Ok(());
     }
@@ -491,18 +591,10 @@ pub(crate) fn write_event<W: Write>(
 /// Errors: any error of `out`. How much has been written is then unspecified.
 ///
 /// Formats: The command line
-pub(crate) fn write_legend<W: Write>(out: &mut W, canvas: Canvas) -> io::Result<()> {
-    let mut x = 8u64;
-    for (colour, name) in [
-        (LaneColour::State(State::Gather), "gather"),
-        (LaneColour::State(State::Commit), "commit"),
-        (LaneColour::State(State::Recovery), "recovery"),
-        (LaneColour::State(State::Operational), "operational"),
-        (LaneColour::Minority, "operational, not primary"),
-    ] {
-        write_colour(out, canvas, colour, name, x)?;
-        x = x.saturating_add(110);
-    }
+pub(crate) fn write_legend<W: Write>(out: &mut W, canvas: Canvas) -> io::Result<()>
+    ensures { OnOk result (IsGrown (W.contents out.old) (W.contents out.new)) }
+{
+    write_colours(out, canvas)?;
     write_words(
         out,
         canvas,
@@ -526,8 +618,28 @@ pub(crate) fn write_legend<W: Write>(out: &mut W, canvas: Canvas) -> io::Result<
     )
 }
 
+/// Writes the colours of the lanes and their meanings.
+fn write_colours<W: Write>(out: &mut W, canvas: Canvas) -> io::Result<()>
+    ensures { OnOk result (IsGrown (W.contents out.old) (W.contents out.new)) }
+{
+    let mut x = 8u64;
+    for (colour, name) in [
+        (LaneColour::State(State::Gather), "gather"),
+        (LaneColour::State(State::Commit), "commit"),
+        (LaneColour::State(State::Recovery), "recovery"),
+        (LaneColour::State(State::Operational), "operational"),
+        (LaneColour::Minority, "operational, not primary"),
+    ] {
+        write_colour(out, canvas, colour, name, x)?;
+        x = x.saturating_add(110);
+    }
+    Ok(())
+}
+
 /// Writes a line of the legend, at this distance from its top.
-fn write_words<W: Write>(out: &mut W, canvas: Canvas, below: u64, words: &str) -> io::Result<()> {
+fn write_words<W: Write>(out: &mut W, canvas: Canvas, below: u64, words: &str) -> io::Result<()>
+    ensures { OnOk result (IsGrown (W.contents out.old) (W.contents out.new)) }
+{
     write_text(out, (8, canvas.legend().saturating_add(below)), "", words)
 }
 
@@ -538,7 +650,9 @@ fn write_colour<W: Write>(
     colour: LaneColour,
     name: &str,
     x: u64,
-) -> io::Result<()> {
+) -> io::Result<()>
+    ensures { OnOk result (IsGrown (W.contents out.old) (W.contents out.new)) }
+{
     let y = canvas.legend().saturating_add(8);
     write_box(out, (x, y), 24, colour)?;
     let beside = (x.saturating_add(28), y.saturating_add(BASE));
@@ -555,7 +669,9 @@ pub(crate) fn write_rest<W: Write>(
     canvas: Canvas,
     from: u64,
     to: u64,
-) -> io::Result<()> {
+) -> io::Result<()>
+    ensures { OnOk result (IsGrown (W.contents out.old) (W.contents out.new)) }
+{
     let y = canvas.legend().saturating_add(86);
     write_text(
         out,

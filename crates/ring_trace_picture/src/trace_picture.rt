@@ -7,6 +7,7 @@ ghost use Rattle.ring_base.specs.declared.fault.Fault.TheVariants.{Memory};
 ghost use Rattle.ring_trace_picture.specs.declared.mark.PictureMark.TheVariants.{Heal, Lost, Rounds, LaneColour as ShadeMark};
 ghost use Rattle.ring_trace_picture.specs.PictureModels.{opening_picture, column_begun, mark_added};
 ghost use Rattle.ring_trace_picture.specs.TracePictures.{submit_mark, change_marks, outcome_mark, event_marks};
+ghost use Rattle.ring_trace_picture.specs.PictureTexts.{HasPicture};
 ghost use Rattle.ring_failure.specs.Failures.{IsOutputOrMemory};
 
 use crate::bands::set_text_width;
@@ -272,7 +273,7 @@ impl<A: Allocator + Copy> TracePicture<A> {
         self.picture.begin_column(events);
     }
 
-    /// Writes the picture as SVG.
+    /// Writes the picture as SVG: one element `svg`, and a line feed.
     ///
     /// `last` is the number of the last requested event.
     ///
@@ -281,7 +282,8 @@ impl<A: Allocator + Copy> TracePicture<A> {
     ///
     /// Formats: The command line
     pub fn print<W: Write>(&self, out: &mut W, last: u64) -> Result<(), Failure>
-        ensures { IfErr result IsOutputOrMemory }
+        ensures printed { OnOk result (HasPicture self.now.picture (W.contents out.old) (W.contents out.new)) }
+        ensures failed { IfErr result IsOutputOrMemory }
     {
         match self.picture.write(out, last) {
             Ok(()) => Ok(()),

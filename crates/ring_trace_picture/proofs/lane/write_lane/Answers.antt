@@ -1,0 +1,12 @@
+use Rattle.std.proofs.Common.{rules}
+use Rattle.ring_trace_picture.specs.PictureTexts.{IsGrown}
+use Rattle.ring_trace_picture.proofs.Growth.{grown_more, grown_at_ok}
+use Rattle.ring_trace_picture.proofs.lane.write_lane.Goals as goal
+
+pub loop-placed-preserved : goal.loop-placed-preserved
+loop-placed-preserved g c =
+    let step : IsGrown (g.W.Write.contents c.loop-placed.out) (g.W.Write.contents c.match-placed.out) = search rules in
+    grown_more _ _ _ c.loop-placed.invariant step
+
+pub returns : goal.returns
+returns g c = grown_at_ok _ _ _ c.write_last_box.result c.loop-placed.invariant c.write_last_box.ensures

@@ -1,0 +1,5 @@
+use Rattle.ring_trace_picture.proofs.Growth.{grown_at_ok}
+use Rattle.ring_trace_picture.proofs.shapes.write_stop.Goals as goal
+
+pub returns : goal.returns
+returns g c = grown_at_ok _ _ _ c.write_text.result (_, c.in_ok-write.ensures.bytes) c.write_text.ensures
