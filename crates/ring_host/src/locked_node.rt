@@ -46,8 +46,8 @@ pub trait LockedNode<B, A: Allocator + Copy + Drop> {
     ///
     /// Errors, in this order: `Stranger` if this is the node of another processor; `BookFull` if the book has no free
     /// place; `Memory` if an allocation for the place fails; `Stranger` while the node's last step isn't in the book;
-    /// `Stopped` if the node has stopped; `PendingFull` if it can give no ticket; `Memory` if an allocation for the call
-    /// fails. Node and book are then unchanged.
+    /// `Stopped` if the node has stopped; `PendingFull` if it can give no ticket; `Memory` if an allocation for the
+    /// call fails. Node and book are then unchanged.
     ///
     /// Rules: The book and the threads 24
     // The call is borrowed: Rattle makes no proof of an `impl` for `Cell<O, K>` with a method that takes it by value.
@@ -66,8 +66,8 @@ pub trait LockedNode<B, A: Allocator + Copy + Drop> {
     /// `outbox` takes the frames of the line, which sends none.
     ///
     /// Errors, in this order: `Stranger` if this is the node of another processor; `BookFull` if the book has no free
-    /// place; `Memory` if an allocation fails; `Stranger` while the node's last step isn't in the book; `Stopped` if the
-    /// node had already stopped. Node and book are then unchanged.
+    /// place; `Memory` if an allocation fails; `Stranger` while the node's last step isn't in the book; `Stopped` if
+    /// the node had already stopped. Node and book are then unchanged.
     ///
     /// Rules: The book and the threads 25
     fn stop_in(&mut self, book: &mut B, node: Proc, outbox: &mut Outbox<A>) -> Result<(), Fault>
