@@ -52,8 +52,9 @@ pub trait LockedNode<B, A: Allocator + Copy + Drop> {
     ///
     /// Errors, in this order: `Stranger` if this is the node of another processor; `BookFull` if the book has no free
     /// place; `Memory` if an allocation for the place fails; `Stranger` while the node's last step isn't in the book;
-    /// `Stopped` if the node has stopped; `PendingFull` if it can give no ticket; `Memory` if an allocation for the call
-    /// fails. Node and book are then unchanged. Unless it returns `Stranger`, no node is left ahead that wasn't before.
+    /// `Stopped` if the node has stopped; `PendingFull` if it can give no ticket; `Memory` if an allocation for the
+    /// call fails. Node and book are then unchanged. Unless it returns `Stranger`, it leaves no node ahead that wasn't
+    /// so before.
     ///
     /// Rules: The book and the threads 16 and 24
     // The call is borrowed: Rattle makes no proof of an `impl` for `Cell<O, K>` with a method that takes it by value.
@@ -73,9 +74,9 @@ pub trait LockedNode<B, A: Allocator + Copy + Drop> {
     /// `outbox` takes the frames of the line, which sends none.
     ///
     /// Errors, in this order: `Stranger` if this is the node of another processor; `BookFull` if the book has no free
-    /// place; `Memory` if an allocation fails; `Stranger` while the node's last step isn't in the book; `Stopped` if the
-    /// node had already stopped. Node and book are then unchanged. Unless it returns `Stranger`, no node is left ahead
-    /// that wasn't before.
+    /// place; `Memory` if an allocation fails; `Stranger` while the node's last step isn't in the book; `Stopped` if
+    /// the node had already stopped. Node and book are then unchanged. Unless it returns `Stranger`, it leaves no node
+    /// ahead that wasn't so before.
     ///
     /// Rules: The book and the threads 16 and 25
     fn stop_in(&mut self, book: &mut B, node: Proc, outbox: &mut Outbox<A>) -> Result<(), Fault>
