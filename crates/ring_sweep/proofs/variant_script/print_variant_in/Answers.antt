@@ -21,10 +21,10 @@ pub print_with_injection-requires : goal.print_with_injection-requires
 print_with_injection-requires g c =
     few_before c.of_variant-injection.result c.args.place c.saturating_sub.result c.count.result c.of_variant-injection.ensures c.saturating_sub.ensures (omega arith)
 
-pub returns-in-Ok-2-clause-printed : goal.returns-in-Ok-2-clause-printed
-returns-in-Ok-2-clause-printed g c = λ _. (
+pub returns-in-Ok-print_with_injection-clause-printed : goal.returns-in-Ok-print_with_injection-clause-printed
+returns-in-Ok-print_with_injection-clause-printed g c = λ _. (
   omega (arith, c.if-place-eq0.false),
   variant_printed g.T.Object.sequential c.args.script.now.nodes c.args.script.now.lines.items c.args.text.now _ _ c.of_variant-injection.result _
       c.in-Ok.script_position (asked_is c.of_variant-injection.result c.args.place c.saturating_sub.result c.count.result c.args.script.now.nodes.count
-      c.of_variant-injection.ensures c.count.ensures.value c.saturating_sub.ensures) c.in-Ok.ensures.ok (omega (arith, c.if-place-eq0.false)) c.in-Ok-2.ensures.printed,
+      c.of_variant-injection.ensures c.count.ensures.value c.saturating_sub.ensures) c.in-Ok.ensures.ok (omega (arith, c.if-place-eq0.false)) c.in-Ok-print_with_injection.ensures.printed,
 )
