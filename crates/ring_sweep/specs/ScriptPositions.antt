@@ -4,7 +4,7 @@ use Rattle.std.specs.Prelude.{◌≡◌, ℕ, zero, suc, ◌+◌, ◌-◌, ◌*�
 use Rattle.ring_base.specs.Group.{Group}
 use Rattle.ring_object.specs.Operations.{Sequential}
 use Rattle.ring_script.specs.declared.line.ScriptLine.{ScriptLine}
-use Rattle.ring_script.specs.declared.line.ScriptLine.TheVariants.{Call, Deliver, Timeout, Noise, Stop, Cut, Heal, Pump, Show}
+use Rattle.ring_script.specs.declared.line.ScriptLine.TheVariants.{Pump}
 use Rattle.ring_script.specs.declared.scripts.NumberedLine.{NumberedLine}
 use Rattle.ring_console.specs.Running.{RunView, run_opening}
 use Rattle.ring_sweep.specs.declared.script_position.ScriptPosition.{ScriptPosition}
