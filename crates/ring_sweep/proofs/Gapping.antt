@@ -15,7 +15,7 @@ use Rattle.ring_console.specs.Running.{RunView, run_opening, IsLineDone}
 use Rattle.ring_sweep.specs.declared.script_position.ScriptPosition.{ScriptPosition}
 use Rattle.ring_sweep.specs.declared.injection.Injection.{Injection}
 use Rattle.ring_sweep.specs.Variants.{turn, steps_in, steps_of, is_event, bit, line_of_injection, AreStepsDone, IsDue, IsVariant}
-use Rattle.ring_sweep.specs.ScriptPositions.{IsWithin, left_in, IsPlace, done_of, left_of, IsNext, IsUntil, IsStepUntil, HasReachedEvent, IsScriptPosition}
+use Rattle.ring_sweep.specs.ScriptPositions.{IsWithin, left_in, IsPlace, HasStepLeft, IsBeforeStep, done_of, left_of, IsNext, IsUntil, IsStepUntil, HasReachedEvent, IsScriptPosition}
 use Rattle.ring_sweep.proofs.Walking.{passes_append, turns_more, turns_idle, lines_more}
 
 -- ---- whether a step is the event after `before` others.
@@ -96,6 +96,35 @@ module _ {A : Type 0} where
   within_place [] k taken l here within = absurd (cc (here))
   within_place (x ∷ xs) zero taken l here within = let same : l ≡ x = cc in subst (λ (y : NumberedLine A). IsWithin y.line taken) same within
   within_place (x ∷ xs) (suc k) taken l here within = within_place xs k taken l here within
+
+  -- A step that is next is left.
+  some_left : (n before events : ℕ) (t : RunView A) → IsNext (replicate n (turn {A = A})) before events t → 0 < n
+  some_left zero before events t next = absurd next
+  some_left (suc n) before events t next = omega arith
+
+  has_left : (l : ScriptLine A) (taken before events : ℕ) (t : RunView A) → IsWithin l taken → IsNext (left_in l taken) before events t
+      → HasStepLeft l taken
+  has_left (Pump turns) taken before events t within next =
+      let some = some_left (turns - taken) before events t next in omega (arith, some)
+  has_left (Call node call) taken before events t within next = within
+  has_left (Deliver node frame) taken before events t within next = within
+  has_left (Timeout node kind) taken before events t within next = within
+  has_left (Noise node bytes) taken before events t within next = within
+  has_left (Stop node) taken before events t within next = within
+  has_left (Cut groups) taken before events t within next = within
+  has_left Heal taken before events t within next = within
+  has_left Show taken before events t within next = within
+
+  left_place : (lines : List (NumberedLine A)) (k taken : ℕ) (l : NumberedLine A) → slice_get lines k ≡ Some l → HasStepLeft l.line taken → IsBeforeStep lines k taken
+  left_place [] k taken l here left = absurd (cc (here))
+  left_place (x ∷ xs) zero taken l here left = let same : l ≡ x = cc in subst (λ (y : NumberedLine A). HasStepLeft y.line taken) same left
+  left_place (x ∷ xs) (suc k) taken l here left = left_place xs k taken l here left
+
+  -- After the last line no turn is taken.
+  pub step_behind : (lines : List (NumberedLine A)) (k taken : ℕ) → length lines ≤ k → IsPlace lines k taken → IsBeforeStep lines k taken
+  step_behind [] k taken past place = place
+  step_behind (x ∷ xs) zero taken past place = absurd (omega (arith, past))
+  step_behind (x ∷ xs) (suc k) taken past place = step_behind xs k taken (omega (arith, past)) place
 
   left_at : (lines : List (NumberedLine A)) (k taken : ℕ) (l : NumberedLine A) → slice_get lines k ≡ Some l
       → left_of lines k taken ≡ left_in l.line taken ++ steps_of (drop (k + 1) lines)
@@ -278,6 +307,13 @@ module _ {O A : Type 0} (object : Sequential O) where
       come_to group lines k taken turns before done events l s t here come
       (subst (λ (f : Option ℕ). IsUntil object l.line taken before f done events s t) some until)
 
+  pub step_found : (lines : List (NumberedLine A)) (k taken turns before done events : ℕ) (l : NumberedLine A) (found : Option ℕ) (s t : RunView A)
+      → slice_get lines k ≡ Some l → IsUntil object l.line taken before found done events s t → found ≡ Some turns → IsBeforeStep lines k turns
+  step_found lines k taken turns before done events l found s t here until some =
+      let so : IsUntil object l.line taken before (Some turns) done events s t =
+      subst (λ (f : Option ℕ). IsUntil object l.line taken before f done events s t) some until in
+      left_place lines k turns l here (has_left l.line turns before events t so.1 so.3)
+
   -- ---- the result there.
 
   -- At most as many events were run as come before it.
@@ -287,12 +323,13 @@ module _ {O A : Type 0} (object : Sequential O) where
 
   pub is_gap : (group : Group) (lines : List (NumberedLine A)) (before : ℕ) (script_position : ScriptPosition) (t : RunView A)
       → HasReachedEvent object group lines script_position.lines script_position.turns script_position.events t → IsDue object (left_of lines script_position.lines script_position.turns) script_position.events before t
-      → IsScriptPosition object group lines before script_position
-  is_gap group lines before script_position t come due = record {
+      → IsBeforeStep lines script_position.lines script_position.turns → IsScriptPosition object group lines before script_position
+  is_gap group lines before script_position t come due step = record {
     first = done_of lines script_position.lines script_position.turns;
     others = left_of lines script_position.lines script_position.turns;
     whole = parted lines script_position.lines script_position.turns come.place;
     place = refl;
+    step = step;
     reached = t;
     passes = come.passes;
     due = due;

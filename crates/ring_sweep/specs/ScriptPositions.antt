@@ -4,7 +4,7 @@ use Rattle.std.specs.Prelude.{◌≡◌, ℕ, zero, suc, ◌+◌, ◌-◌, ◌*�
 use Rattle.ring_base.specs.Group.{Group}
 use Rattle.ring_object.specs.Operations.{Sequential}
 use Rattle.ring_script.specs.declared.line.ScriptLine.{ScriptLine}
-use Rattle.ring_script.specs.declared.line.ScriptLine.TheVariants.{Call, Deliver, Timeout, Noise, Stop, Cut, Heal, Pump, Show}
+use Rattle.ring_script.specs.declared.line.ScriptLine.TheVariants.{Pump}
 use Rattle.ring_script.specs.declared.scripts.NumberedLine.{NumberedLine}
 use Rattle.ring_console.specs.Running.{RunView, run_opening}
 use Rattle.ring_sweep.specs.declared.script_position.ScriptPosition.{ScriptPosition}
@@ -29,6 +29,17 @@ abbrev pub IsPlace : {A : Type 0} → List (NumberedLine A) → ℕ → ℕ → 
 IsPlace [] k taken = taken ≡ 0
 IsPlace (l ∷ ls) zero taken = IsWithin l.line taken
 IsPlace (l ∷ ls) (suc k) taken = IsPlace ls k taken
+
+-- Whether a line has a step left after its first `taken` turns.
+abbrev pub HasStepLeft : {A : Type 0} → ScriptLine A → ℕ → Type 0
+HasStepLeft (Pump turns) taken = taken < turns
+HasStepLeft l taken = taken ≡ 0
+
+-- The next line has a step left, or all lines are done.
+abbrev pub IsBeforeStep : {A : Type 0} → List (NumberedLine A) → ℕ → ℕ → Type 0
+IsBeforeStep [] k taken = taken ≡ 0
+IsBeforeStep (l ∷ ls) zero taken = HasStepLeft l.line taken
+IsBeforeStep (l ∷ ls) (suc k) taken = IsBeforeStep ls k taken
 
 -- The steps before a position.
 abbrev pub done_of : {A : Type 0} → List (NumberedLine A) → ℕ → ℕ → List (ScriptLine A)
@@ -63,12 +74,14 @@ module _ {O : Type 0} (object : Sequential O) where
     pub place : IsPlace lines k taken
     pub passes : AreStepsDone object (done_of lines k taken) 0 events (run_opening group) run
 
-  -- The position is directly before the event after `before` others, or it is the end and there is no such event.
+  -- The position is directly before the event after `before` others, within that event's line; or it is the end and
+  -- there is no such event.
   pub record IsScriptPosition {A : Type 0} (group : Group) (lines : List (NumberedLine A)) (before : ℕ) (script_position : ScriptPosition) : Type 0 where
     pub first : List (ScriptLine A)
     pub others : List (ScriptLine A)
     pub whole : steps_of lines ≡ first ++ others
     pub place : first ≡ steps_of (take script_position.lines lines) ++ replicate script_position.turns turn
+    pub step : IsBeforeStep lines script_position.lines script_position.turns
     pub reached : RunView A
     pub passes : AreStepsDone object first 0 script_position.events (run_opening group) reached
     pub due : IsDue object others script_position.events before reached

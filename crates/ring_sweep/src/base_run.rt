@@ -6,7 +6,7 @@ ghost use Rattle.std.specs.Prelude.{◌≡◌, ◌≤◌, IfOk, IfErr, OnOk};
 ghost use Rattle.ring_base.specs.declared.fault.Fault.TheVariants.{Memory};
 ghost use Rattle.ring_script.specs.Fits.{AreFit};
 ghost use Rattle.ring_console.specs.Running.{run_opening};
-ghost use Rattle.ring_sweep.specs.ScriptPositions.{HasReachedEvent, left_of};
+ghost use Rattle.ring_sweep.specs.ScriptPositions.{HasReachedEvent, IsBeforeStep, left_of};
 ghost use Rattle.ring_sweep.specs.Variants.{steps_of, IsDue, IsVariant, AreStepsDone};
 
 use crate::counted_run::CountedRun;
@@ -49,6 +49,8 @@ impl<O: Object> BaseRun<O> {
 
     /// Continues until `before` events have been run and the next step is an event, or to the end of the script.
     ///
+    /// The next line then has a step left, if there is a next line.
+    ///
     /// At most `before` events may have been run so far.
     ///
     /// Errors: `Memory` if an allocation fails; the run is then unspecified.
@@ -62,6 +64,7 @@ impl<O: Object> BaseRun<O> {
             (HasReachedEvent O.sequential script.now.nodes script.now.lines.items self.new.lines self.new.turns self.new.counted_run.events_done self.new.counted_run.run) }
         ensures due { OnOk result
             (IsDue O.sequential (left_of script.now.lines.items self.new.lines self.new.turns) self.new.counted_run.events_done before self.new.counted_run.run) }
+        ensures step { OnOk result (IsBeforeStep script.now.lines.items self.new.lines self.new.turns) }
         ensures refused { IfErr result (λ fault. fault ≡ Memory) }
     {
         for index in self.lines..script.lines.len() {

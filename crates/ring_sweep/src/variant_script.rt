@@ -2,7 +2,9 @@
 //!
 //! Formats: The command line
 
-ghost use Rattle.std.specs.Prelude.{◌≡◌, ◌-◌, ◌≤◌, ◌⊎◌, Ok, IfErr, OnOk, length};
+ghost use Rattle.std.specs.Prelude.{◌≡◌, ◌+◌, ◌-◌, ◌^◌, ◌<◌, ◌≤◌, ◌==◌, ◌⊎◌, ◌++◌, if◌then◌else◌, Ok, Some, IfErr, OnOk, codes, length, slice_get};
+ghost use Rattle.std.specs.Fmt.{decimal};
+ghost use Rattle.std.specs.List.{join_by};
 ghost use Rattle.std.specs.Io.KnownBytes.{Appends};
 ghost use Rattle.ring_script.specs.Fits.{AreFit};
 ghost use Rattle.ring_script.specs.ScriptTexts.{IsNoScript};
@@ -10,9 +12,11 @@ ghost use Rattle.ring_script.specs.Scripts.{IsScriptOfInput, IsScriptOfInputBy};
 ghost use Rattle.ring_script.specs.declared.scripts.Script.{Script as OneScript};
 ghost use Rattle.ring_script.specs.ShelfVocabulary.{shelf_operation_forms};
 ghost use Rattle.ring_failure.specs.declared.failure.Failure.TheVariants.{Output};
+ghost use Rattle.ring_failure.specs.Texts.{line_of};
 ghost use Rattle.ring_console.specs.Running.{HasPrinted};
 ghost use Rattle.ring_sweep.specs.ScriptPositions.{HasNoVariant};
-ghost use Rattle.ring_sweep.specs.VariantTexts.{IsGrown, comment_of, HasInjection, BeginsWithInjection};
+ghost use Rattle.ring_sweep.specs.VariantTexts.{comment_of, injected_lines, injection_line, other_nodes, pump_line, first_lines, lines_after, lines_length, is_ended};
+ghost use Rattle.ring_sweep.specs.VariantTexts.{ended_text, split_turns, with_injected, text_with_injection, IsVariantText};
 ghost use Rattle.ring_sweep.specs.Variants.{injection_at};
 
 use crate::injection::{Injection, InjectionKind, InjectionText};
@@ -53,8 +57,10 @@ pub fn print_variant<A: Allocator + Copy + Drop, O: Write, E: Write>(
     ensures absent { let object = ⟦<StandardObjects<A> as Object>⟧ in
         result ≡ 2 → (script : OneScript A) × IsScriptOfInput (Ok script) text.now
         × HasNoVariant object.sequential script.nodes script.lines.items place }
-    ensures printed { result ≡ 0 → (script : OneScript A) × IsScriptOfInput (Ok script) text.now × (1 ≤ place)
-        × HasPrinted (O.contents out.old) (O.contents out.new) (HasInjection (injection_at script.nodes.count (place - 1))) }
+    ensures printed { let object = ⟦<StandardObjects<A> as Object>⟧ in
+        result ≡ 0 → (script : OneScript A) × IsScriptOfInput (Ok script) text.now × (1 ≤ place)
+        × HasPrinted (O.contents out.old) (O.contents out.new)
+        (IsVariantText object.sequential script.nodes script.lines.items text.now (injection_at script.nodes.count (place - 1))) }
     ensures kept { result ≡ 1 → (out.new ≡ out.old) ⊎ (err.new ≡ err.old) }
 {
     print_variant_of::<StandardObjects<A>, ShelfVocabulary, O, E>(alloc, text, place, out, err)
@@ -62,9 +68,7 @@ pub fn print_variant<A: Allocator + Copy + Drop, O: Write, E: Write>(
 
 /// Prints the script of a variant as [`print_variant`] does, for objects `T` with the vocabulary `V`.
 ///
-/// Returns the exit status, 0 to 2.
-///
-/// Errors: as for [`print_variant`].
+/// Returns the exit status: 0, 1 or 2, as [`print_variant`] does.
 ///
 /// Formats: The command line
 pub fn print_variant_of<T: Object, V: Vocabulary, O: Write, E: Write>(
@@ -81,7 +85,8 @@ pub fn print_variant_of<T: Object, V: Vocabulary, O: Write, E: Write>(
     ensures absent { result ≡ 2 → (script : OneScript T.Alloc) × IsScriptOfInputBy V.forms (Ok script) text.now
         × HasNoVariant T.sequential script.nodes script.lines.items place }
     ensures printed { result ≡ 0 → (script : OneScript T.Alloc) × IsScriptOfInputBy V.forms (Ok script) text.now × (1 ≤ place)
-        × HasPrinted (O.contents out.old) (O.contents out.new) (HasInjection (injection_at script.nodes.count (place - 1))) }
+        × HasPrinted (O.contents out.old) (O.contents out.new)
+        (IsVariantText T.sequential script.nodes script.lines.items text.now (injection_at script.nodes.count (place - 1))) }
     ensures kept { result ≡ 1 → (out.new ≡ out.old) ⊎ (err.new ≡ err.old) }
 {
     let mut rest = text;
@@ -106,7 +111,8 @@ fn print_variant_in<T: Object, O: Write, E: Write>(
     ensures unprinted { result ≡ 2 → out.new ≡ out.old }
     ensures absent { result ≡ 2 → HasNoVariant T.sequential script.now.nodes script.now.lines.items place }
     ensures printed { result ≡ 0 → (1 ≤ place)
-        × HasPrinted (O.contents out.old) (O.contents out.new) (HasInjection (injection_at script.now.nodes.count (place - 1))) }
+        × HasPrinted (O.contents out.old) (O.contents out.new)
+        (IsVariantText T.sequential script.now.nodes script.now.lines.items text.now (injection_at script.now.nodes.count (place - 1))) }
     ensures kept { result ≡ 1 → (out.new ≡ out.old) ⊎ (err.new ≡ err.old) }
 {
     let injection = Injection::of_variant(script.nodes.count(), place.saturating_sub(1));
@@ -124,7 +130,9 @@ fn print_variant_in<T: Object, O: Write, E: Write>(
     }
 }
 
-/// Prints a script's text with an injection of_variant this position.
+/// Prints a script's text with an injection at this position.
+///
+/// The injection must come after fewer than 2^64 - 1 events.
 ///
 /// Errors: `Output` if writing fails.
 fn print_with_injection<A: Allocator + Copy, O: Write>(
@@ -134,7 +142,9 @@ fn print_with_injection<A: Allocator + Copy, O: Write>(
     injection: Injection,
     out: &mut O,
 ) -> Result<(), Failure>
-    ensures printed { OnOk result (HasPrinted (O.contents out.old) (O.contents out.new) (HasInjection injection)) }
+    requires { injection.before < 2 ^ 64 - 1 }
+    ensures printed { OnOk result (Appends (O.contents out.old) (O.contents out.new)
+        (text_with_injection text.now (slice_get script.now.lines.items script_position.lines) script_position.turns script.now.nodes.count injection)) }
     ensures failed { IfErr result (λ failure. failure ≡ Output) }
 {
     let count = script.nodes.count();
@@ -160,32 +170,55 @@ fn print_with_line<A: Allocator + Copy, O: Write>(
     added_lines: &InjectedLines,
     out: &mut O,
 ) -> Result<(), Failure>
-    ensures printed { OnOk result (HasPrinted (O.contents out.old) (O.contents out.new) (HasInjection added_lines.now.injection)) }
+    ensures printed { let u = added_lines.now in OnOk result (Appends (O.contents out.old) (O.contents out.new)
+        (first_lines (next.now.number - 1) text.now ++ with_injected (split_turns next.now.line taken) taken
+        (injected_lines u.count u.events u.injection) (lines_after (next.now.number - 1) text.now))) }
     ensures failed { IfErr result (λ failure. failure ≡ Output) }
 {
     let begin = line_begin(text, next.number);
     let behind = &text[begin..];
-    let end = line_begin(behind, 2);
     print_bytes(&text[..begin], out)?;
-    print_line(&behind[..end], &next.line, taken, added_lines, out)?;
-    print_text(&behind[end..], out)
+    match split_turns(&next.line, taken) {
+        Some(turns) => print_split_pump(behind, turns, taken, added_lines, out),
+        None => print_before(behind, added_lines, out),
+    }
 }
 
 /// Returns the index of the first byte of line `number`, counted from 1, or the length of the text if it has no such
 /// line.
 fn line_begin(text: &[u8], number: u64) -> usize
-    ensures { result ≤ length text.now }
+    ensures begin { result ≡ lines_length (number - 1) text.now }
+    ensures within { result ≤ length text.now }
 {
     let mut line = 1u64;
     for (index, byte) in text.iter().enumerate() {
         if line >= number {
             return index;
         }
-        if *byte == b'\n' {
-            line = line.saturating_add(1);
-        }
+        line = line_behind(line, *byte);
     }
     text.len()
+}
+
+/// Returns the number of the line that a text is in after this byte of line `line`.
+fn line_behind(line: u64, byte: u8) -> u64
+    ensures { line < 2 ^ 64 - 1 → result ≡ (if byte == 10 then line + 1 else line) }
+{
+    if byte == b'\n' {
+        line.saturating_add(1)
+    } else {
+        line
+    }
+}
+
+/// Returns the turns of the line if it is a pump and `taken` of them come before the injection.
+fn split_turns<A: Allocator + Copy>(line: &ScriptLine<A>, taken: u32) -> Option<u32>
+    ensures { result ≡ split_turns line.now taken }
+{
+    match line {
+        ScriptLine::Pump { turns } if taken > 0 => Some(*turns),
+        _ => None,
+    }
 }
 
 /// Prints a text, and the injected lines after it.
@@ -196,52 +229,34 @@ fn print_with_end<O: Write>(
     added_lines: &InjectedLines,
     out: &mut O,
 ) -> Result<(), Failure>
-    ensures printed { OnOk result (HasPrinted (O.contents out.old) (O.contents out.new) (HasInjection added_lines.now.injection)) }
+    ensures printed { let u = added_lines.now in OnOk result (Appends (O.contents out.old) (O.contents out.new)
+        (ended_text text.now ++ injected_lines u.count u.events u.injection)) }
     ensures failed { IfErr result (λ failure. failure ≡ Output) }
 {
     print_text(text, out)?;
     print_injected(added_lines, out)
 }
 
-/// Prints the injected lines before a line, or between its first `taken` turns and the others, which become two pumps.
+/// Prints a text that begins with a pump's line, with the injected lines put into that pump.
 ///
-/// Errors: `Output` if writing fails.
-fn print_line<A: Allocator + Copy, O: Write>(
-    text: &[u8],
-    line: &ScriptLine<A>,
-    taken: u32,
-    added_lines: &InjectedLines,
-    out: &mut O,
-) -> Result<(), Failure>
-    ensures printed { OnOk result (HasPrinted (O.contents out.old) (O.contents out.new) (HasInjection added_lines.now.injection)) }
-    ensures failed { IfErr result (λ failure. failure ≡ Output) }
-{
-    match line {
-        ScriptLine::Pump { turns } if taken > 0 => print_split_pump(
-            *turns,
-            taken,
-            added_lines,
-            out,
-        ),
-        _ => print_before(text, added_lines, out),
-    }
-}
-
-/// Prints the injected lines between the first `taken` turns of a pump and the others.
+/// They come between the pump's first `taken` turns and the others, which become two pumps.
 ///
 /// Errors: `Output` if writing fails.
 fn print_split_pump<O: Write>(
+    text: &[u8],
     turns: u32,
     taken: u32,
     added_lines: &InjectedLines,
     out: &mut O,
 ) -> Result<(), Failure>
-    ensures printed { OnOk result (HasPrinted (O.contents out.old) (O.contents out.new) (HasInjection added_lines.now.injection)) }
+    ensures printed { let u = added_lines.now in OnOk result (Appends (O.contents out.old) (O.contents out.new)
+        (with_injected (Some turns) taken (injected_lines u.count u.events u.injection) text.now)) }
     ensures failed { IfErr result (λ failure. failure ≡ Output) }
 {
     print_pump(taken, out)?;
     print_injected(added_lines, out)?;
-    print_pump(turns.saturating_sub(taken), out)
+    print_pump(turns.saturating_sub(taken), out)?;
+    print_text(&text[line_begin(text, 2)..], out)
 }
 
 /// Prints the injected lines before a text.
@@ -252,15 +267,19 @@ fn print_before<O: Write>(
     added_lines: &InjectedLines,
     out: &mut O,
 ) -> Result<(), Failure>
-    ensures printed { OnOk result (HasPrinted (O.contents out.old) (O.contents out.new) (HasInjection added_lines.now.injection)) }
+    ensures printed { let u = added_lines.now in OnOk result (Appends (O.contents out.old) (O.contents out.new)
+        (injected_lines u.count u.events u.injection ++ ended_text text.now)) }
     ensures failed { IfErr result (λ failure. failure ≡ Output) }
 {
     print_injected(added_lines, out)?;
     print_text(text, out)
 }
 
+/// Prints the line of a pump.
+///
+/// Errors: `Output` if writing fails.
 fn print_pump<O: Write>(turns: u32, out: &mut O) -> Result<(), Failure>
-    ensures printed { OnOk result (IsGrown (O.contents out.old) (O.contents out.new)) }
+    ensures printed { OnOk result (Appends (O.contents out.old) (O.contents out.new) (pump_line turns)) }
     ensures failed { IfErr result (λ failure. failure ≡ Output) }
 {
     output_result(writeln!(out, "pump {turns}"))
@@ -270,18 +289,31 @@ fn print_pump<O: Write>(turns: u32, out: &mut O) -> Result<(), Failure>
 ///
 /// Errors: `Output` if writing fails.
 fn print_text<O: Write>(text: &[u8], out: &mut O) -> Result<(), Failure>
-    ensures printed { OnOk result (IsGrown (O.contents out.old) (O.contents out.new)) }
+    ensures printed { OnOk result (Appends (O.contents out.old) (O.contents out.new) (ended_text text.now)) }
     ensures failed { IfErr result (λ failure. failure ≡ Output) }
 {
     print_bytes(text, out)?;
-    if text.is_empty() || text.ends_with(b"\n") {
+    if is_ended(text) {
         return Ok(());
     }
     print_bytes(b"\n", out)
 }
 
+/// Returns whether a text is empty or its last line ends with a line feed.
+fn is_ended(text: &[u8]) -> bool
+    ensures { result ≡ is_ended text.now }
+{
+    match text.last() {
+        Some(last) => *last == b'\n',
+        None => true,
+    }
+}
+
+/// Prints bytes as they are.
+///
+/// Errors: `Output` if writing fails.
 fn print_bytes<O: Write>(bytes: &[u8], out: &mut O) -> Result<(), Failure>
-    ensures printed { OnOk result (IsGrown (O.contents out.old) (O.contents out.new)) }
+    ensures printed { OnOk result (Appends (O.contents out.old) (O.contents out.new) bytes.now) }
     ensures failed { IfErr result (λ failure. failure ≡ Output) }
 {
     output_result(out.write_all(bytes))
@@ -299,10 +331,13 @@ struct InjectedLines {
 
 impl InjectedLines {
     /// Returns the lines for an injection before its event.
+    ///
+    /// The injection must come after fewer than 2^64 - 1 events.
     fn before_event(injection: Injection, count: u8) -> InjectedLines
-        ensures { result.injection ≡ injection }
+        requires { injection.before < 2 ^ 64 - 1 }
+        ensures { result ≡ record { injection = injection; count = count; events = injection.before + 1 } }
     {
-        let events = injection.before.saturating_add(1);
+        let events = injection.before + 1;
         InjectedLines {
             injection,
             count,
@@ -312,7 +347,7 @@ impl InjectedLines {
 
     /// Returns the lines for an injection after all events.
     fn at_end(injection: Injection, count: u8) -> InjectedLines
-        ensures { result.injection ≡ injection }
+        ensures { result ≡ record { injection = injection; count = count; events = injection.before } }
     {
         let events = injection.before;
         InjectedLines {
@@ -327,7 +362,7 @@ impl InjectedLines {
 ///
 /// Errors: `Output` if writing fails.
 fn print_injected<O: Write>(added_lines: &InjectedLines, out: &mut O) -> Result<(), Failure>
-    ensures printed { OnOk result (HasPrinted (O.contents out.old) (O.contents out.new) (BeginsWithInjection added_lines.now.injection)) }
+    ensures printed { let u = added_lines.now in OnOk result (Appends (O.contents out.old) (O.contents out.new) (injected_lines u.count u.events u.injection)) }
     ensures failed { IfErr result (λ failure. failure ≡ Output) }
 {
     print_comment(&added_lines.injection, added_lines.events, out)?;
@@ -345,32 +380,64 @@ fn print_comment<O: Write>(injection: &Injection, events: u64, out: &mut O) -> R
     output_result(writeln!(out, "# {told}"))
 }
 
-/// Prints the line of the injection, if it has one.
+/// Prints the line of the injection.
+///
+/// The cut of the only node of a group has none: then nothing is printed.
 ///
 /// Errors: `Output` if writing fails.
 fn print_injection<O: Write>(added_lines: &InjectedLines, out: &mut O) -> Result<(), Failure>
-    ensures printed { OnOk result (IsGrown (O.contents out.old) (O.contents out.new)) }
+    ensures printed { let u = added_lines.now in OnOk result (Appends (O.contents out.old) (O.contents out.new)
+        (injection_line u.injection.injection_kind u.injection.node u.count)) }
     ensures failed { IfErr result (λ failure. failure ≡ Output) }
 {
     let node = added_lines.injection.node;
     match added_lines.injection.injection_kind {
-        InjectionKind::Stop => {
-            print_bytes(b"stop ", out)?;
-            print_node(node.number(), out)?;
-        }
-        InjectionKind::Cut if added_lines.count < 2 => return Ok(()),
-        InjectionKind::Cut => {
-            print_bytes(b"cut ", out)?;
-            print_node(node.number(), out)?;
-            print_bytes(b" ", out)?;
-            print_other_nodes(node, added_lines.count, out)?;
-        }
+        InjectionKind::Stop => print_stop(node, out),
+        InjectionKind::Cut if added_lines.count < 2 => Ok(()),
+        InjectionKind::Cut => print_cut(node, added_lines.count, out),
     }
+}
+
+/// Prints the line of a node's stop.
+///
+/// Errors: `Output` if writing fails.
+fn print_stop<O: Write>(node: Proc, out: &mut O) -> Result<(), Failure>
+    ensures printed { OnOk result (Appends (O.contents out.old) (O.contents out.new) (line_of (codes "stop " ++ decimal node))) }
+    ensures failed { IfErr result (λ failure. failure ≡ Output) }
+{
+    output_result(writeln!(out, "stop {node}"))
+}
+
+/// Prints the line of a cut that separates a node from all others.
+///
+/// Errors: `Output` if writing fails.
+fn print_cut<O: Write>(node: Proc, count: u8, out: &mut O) -> Result<(), Failure>
+    ensures printed { OnOk result (Appends (O.contents out.old) (O.contents out.new)
+        (line_of (codes "cut " ++ decimal node ++ codes " " ++ join_by decimal (codes ",") (other_nodes node count)))) }
+    ensures failed { IfErr result (λ failure. failure ≡ Output) }
+{
+    print_bytes(b"cut ", out)?;
+    print_node(node, out)?;
+    print_bytes(b" ", out)?;
+    print_other_nodes(node, count, out)?;
     print_bytes(b"\n", out)
 }
 
-fn print_node<O: Write>(number: u8, out: &mut O) -> Result<(), Failure>
-    ensures printed { OnOk result (IsGrown (O.contents out.old) (O.contents out.new)) }
+/// Prints a node's number.
+///
+/// Errors: `Output` if writing fails.
+fn print_node<O: Write>(node: Proc, out: &mut O) -> Result<(), Failure>
+    ensures printed { OnOk result (Appends (O.contents out.old) (O.contents out.new) (decimal node)) }
+    ensures failed { IfErr result (λ failure. failure ≡ Output) }
+{
+    output_result(write!(out, "{node}"))
+}
+
+/// Prints a number.
+///
+/// Errors: `Output` if writing fails.
+fn print_number<O: Write>(number: u8, out: &mut O) -> Result<(), Failure>
+    ensures printed { OnOk result (Appends (O.contents out.old) (O.contents out.new) (decimal number)) }
     ensures failed { IfErr result (λ failure. failure ≡ Output) }
 {
     output_result(write!(out, "{number}"))
@@ -380,14 +447,14 @@ fn print_node<O: Write>(number: u8, out: &mut O) -> Result<(), Failure>
 ///
 /// Errors: `Output` if writing fails.
 fn print_other_nodes<O: Write>(node: Proc, count: u8, out: &mut O) -> Result<(), Failure>
-    ensures printed { OnOk result (IsGrown (O.contents out.old) (O.contents out.new)) }
+    ensures printed { OnOk result (Appends (O.contents out.old) (O.contents out.new) (join_by decimal (codes ",") (other_nodes node count))) }
     ensures failed { IfErr result (λ failure. failure ≡ Output) }
 {
     let mut parting: &[u8] = b"";
     for before in 0..count {
         if node.number() != before + 1 {
             print_bytes(parting, out)?;
-            print_node(before + 1, out)?;
+            print_number(before + 1, out)?;
             parting = b",";
         }
     }

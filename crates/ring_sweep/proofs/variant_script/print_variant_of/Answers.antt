@@ -1,5 +1,5 @@
 -- A text that is no script is not read as one; one that is read is that text.
-use Rattle.std.proofs.Common.{Ok, Some, refl, subst, List, ℕ, sym}
+use Rattle.std.proofs.Common.{Ok, Some, refl, subst, List, ℕ}
 use Rattle.ring_script.specs.Scripts.{IsScriptOfInputBy}
 use Rattle.ring_console.proofs.NotRead.{no_script_read}
 use Rattle.ring_sweep.proofs.variant_script.print_variant_of.Goals as goal
