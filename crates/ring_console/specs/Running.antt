@@ -12,6 +12,9 @@ use Rattle.ring_world.specs.EventVariants as events
 use Rattle.ring_script.specs.declared.line.ScriptLine.{ScriptLine}
 use Rattle.ring_script.specs.declared.line.ScriptLine.TheVariants.{Call, Deliver, Timeout, Noise, Stop, Cut, Heal, Pump, Show}
 use Rattle.ring_script.specs.declared.scripts.NumberedLine.{NumberedLine}
+use Rattle.ring_script.specs.declared.scripts.Script.{Script}
+use Rattle.ring_script.specs.Operations.{OperationForm}
+use Rattle.ring_script.specs.Scripts.{IsAllOf, IsScriptOfInputBy}
 use Rattle.ring_failure.specs.declared.failure.Failure.{Failure}
 use Rattle.ring_failure.specs.declared.failure.Failure.TheVariants.{Output, Refused}
 use Rattle.ring_failure.specs.Texts.{line_of, legal_text}
@@ -216,3 +219,12 @@ module _ {O : Type 0} (object : Sequential O) where
     pub ran : RunView A
     pub cut : (text ≡ []) ⊎ (AreLinesInterrupted lines (run_opening group) ran text
         ⊎ ((is_checked ≡ true) × AreLinesDone lines (run_opening group) ran text))
+
+  -- The whole input was a script in a vocabulary with these forms, and the text of a run of it was printed that breaks
+  -- off where an allocation fails.
+  pub record IsBrokenOff (A : Type 0) (forms : List OperationForm) (is_checked : Bool) (input old new : Option (List ℕ)) : Type 0 where
+    pub script : Script A
+    pub bytes : List ℕ
+    pub all : IsAllOf input bytes
+    pub is_script : IsScriptOfInputBy forms (Ok script) bytes
+    pub printed : HasPrinted old new (IsCutTextOf script.nodes is_checked script.lines.items)
