@@ -70,21 +70,21 @@ in_slot contents out (Some writer) mid text xs known a k =
 
 -- If an emptied buffer over a slot with a borrowed writer gives the slot back, that has the same borrow, and its known
 -- bytes have grown by the written bytes.
-pub given_back : {A W : Type 0} (contents : W → Option (List ℕ)) (out : MutBor W) (slot : WriterSlot W) (first mid last : BufWriter (WriterSlot W) A) (text : List ℕ)
+pub given_back : {A W : Type 0} (contents : W → Option (List ℕ)) (out : MutBor W) (slot : WriterSlot W) (back : Option (MutBor W)) (first mid last : BufWriter (WriterSlot W) A) (text : List ℕ)
     → let C : BufWriter (WriterSlot W) A → Option (List ℕ) = writer_contents (λ (s : WriterSlot W). slot_bytes contents s.writer) in
     (xs : List ℕ) → contents out.now ≡ Some xs → writer_inner first ≡ record { writer = Some out } → writer_buffer first ≡ []
-    → Appends (C first) (C mid) text → Keeps (C mid) (C last) → writer_buffer last ≡ [] → slot ≡ writer_inner last
-    → IsGivenBack contents out text slot.writer
-given_back {A} {W} contents out slot first mid last text xs known inner empty written kept emptied back =
+    → Appends (C first) (C mid) text → Keeps (C mid) (C last) → writer_buffer last ≡ [] → slot ≡ writer_inner last → slot.writer ≡ back
+    → IsGivenBack contents out text back
+given_back {A} {W} contents out slot back first mid last text xs known inner empty written kept emptied parts has =
     let N : WriterSlot W → Option (List ℕ) = λ s. slot_bytes contents s.writer in
     let a : Appends (append_known (borrowed_bytes out.ghost_name (contents out.now)) []) (writer_contents N mid) text =
     subst (λ (b : List ℕ). Appends (append_known (borrowed_bytes out.ghost_name (contents out.now)) b) (writer_contents N mid) text) empty
     (subst (λ (s : WriterSlot W). Appends (append_known (N s) (writer_buffer first)) (writer_contents N mid) text) inner written) in
     let k : Keeps (writer_contents N mid) (append_known (N slot) []) =
     subst (λ (b : List ℕ). Keeps (writer_contents N mid) (append_known (N slot) b)) emptied
-    (subst (λ (s : WriterSlot W). Keeps (writer_contents N mid) (append_known (N s) (writer_buffer last))) (sym back) kept) in
+    (subst (λ (s : WriterSlot W). Keeps (writer_contents N mid) (append_known (N s) (writer_buffer last))) (sym parts) kept) in
     let P : Option (List ℕ) → Type 0 = λ o. Appends (append_known (borrowed_bytes out.ghost_name o) []) (writer_contents N mid) text in
-    in_slot contents out slot.writer (writer_contents N mid) text xs known (subst P known a) k
+    subst (IsGivenBack contents out text) has (in_slot contents out slot.writer (writer_contents N mid) text xs known (subst P known a) k)
 
 -- Of unknown bytes there is nothing to prove.
 pub where_known : (old new : Option (List ℕ)) (text : List ℕ) → ((xs : List ℕ) → old ≡ Some xs → Appends old new text) → Appends old new text
