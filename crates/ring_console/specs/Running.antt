@@ -5,7 +5,6 @@ use Rattle.std.specs.Prelude.{Some, None, unwrap_or, Result, Ok, Err, ⊤, slice
 use Rattle.std.specs.Io.KnownBytes.{Appends}
 use Rattle.ring_base.specs.Group.{Group}
 use Rattle.ring_base.specs.Processors.{has}
-use Rattle.ring_base.specs.declared.fault.Fault.TheVariants.{Memory}
 use Rattle.ring_object.specs.Operations.{Sequential}
 use Rattle.ring_world.specs.Rules.{Node, node_known_log, node_length, node_trimmed, Event, IsLinearization, World, order}
 use Rattle.ring_world.specs.EventVariants as events
@@ -16,7 +15,7 @@ use Rattle.ring_script.specs.declared.scripts.Script.{Script}
 use Rattle.ring_script.specs.Operations.{OperationForm}
 use Rattle.ring_script.specs.Scripts.{IsAllOf, IsScriptOfInputBy}
 use Rattle.ring_failure.specs.declared.failure.Failure.{Failure}
-use Rattle.ring_failure.specs.declared.failure.Failure.TheVariants.{Output, Refused}
+use Rattle.ring_failure.specs.declared.failure.Failure.TheVariants.{Output}
 use Rattle.ring_failure.specs.Texts.{line_of, legal_text}
 pub use Rattle.ring_world.specs.declared.open_copies.OpenCopy.{OpenCopy}
 use Rattle.ring_world.specs.Pumping.{PumpView, IsUnchanged as PumpRests, HasRunEvent as PumpHappens}
