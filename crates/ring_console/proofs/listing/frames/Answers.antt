@@ -49,5 +49,9 @@ returns-in_default-clause-cut g c = λ one_is.
     c.exit_status-status.ensures.kept emptied c.into_parts-writer.ensures.inner c.in_default.is)))
 
 pub returns-in-Err-clause-cut : goal.returns-in-Err-clause-cut
-returns-in-Err-clause-cut g c = λ one_is. inr (Refused Memory, (λ e. cc), none_cut g.row.A.Denot (g.R.Read.remaining c.args.input.now) (g.R.Read.remaining c.args.input.now)
-    (g.O.Write.contents c.args.out.now) (Refused Memory) refl)
+returns-in-Err-clause-cut g c = λ one_is. inr (
+  Refused Memory,
+  (λ e. cc),
+  none_cut g.row.A.Denot (g.R.Read.remaining c.args.input.now) (g.R.Read.remaining c.args.input.now)
+      (g.O.Write.contents c.args.out.now) (Refused Memory) refl,
+)
