@@ -273,15 +273,15 @@ moved_cut A input left mid mid' out out' Output other moved cut = absurd (other 
 
 -- Nothing is reported if the listing is complete or its output failed, or if its lines did not reach the output;
 -- otherwise it is cut there.
-pub cut_told : {T : Type 0} (A : Type 0) (done : Result T Failure) (input left mid mid' out out' : Option (List ℕ)) (Untold Emptied Unread : Type 0)
+pub cut_told : {T : Type 0} (A : Type 0) (done : Result T Failure) (input left mid mid' out out' : Option (List ℕ)) (Untold Emptied : Type 0)
     → (done ≡ Err Output → Untold) → (IsOk done → Untold) → Untold ⊎ Emptied → IfErr done (IsCut A input left mid mid')
-    → ((text : List ℕ) → Emptied → Appends mid mid' text → Appends out out' text) → Untold ⊎ (Unread ⊎ IsCutListing A input left out out')
-cut_told A (Ok x) input left mid mid' out out' Untold Emptied Unread output well stands cut moved = inl (well refl)
-cut_told A (Err failure) input left mid mid' out out' Untold Emptied Unread output well (inl untold) cut moved = inl untold
-cut_told A (Err Output) input left mid mid' out out' Untold Emptied Unread output well (inr emptied) cut moved = inl (output refl)
-cut_told A (Err (Refused fault)) input left mid mid' out out' Untold Emptied Unread output well (inr emptied) cut moved =
-    inr (inr (moved_cut A input left mid mid' out out' (Refused fault) (λ e. cc) (λ text written. moved text emptied written) cut))
-cut_told A (Err (BadFrame byte)) input left mid mid' out out' Untold Emptied Unread output well (inr emptied) cut moved =
-    inr (inr (moved_cut A input left mid mid' out out' (BadFrame byte) (λ e. cc) (λ text written. moved text emptied written) cut))
-cut_told A (Err (BadScript line)) input left mid mid' out out' Untold Emptied Unread output well (inr emptied) cut moved =
-    inr (inr (moved_cut A input left mid mid' out out' (BadScript line) (λ e. cc) (λ text written. moved text emptied written) cut))
+    → ((text : List ℕ) → Emptied → Appends mid mid' text → Appends out out' text) → Untold ⊎ IsCutListing A input left out out'
+cut_told A (Ok x) input left mid mid' out out' Untold Emptied output well stands cut moved = inl (well refl)
+cut_told A (Err failure) input left mid mid' out out' Untold Emptied output well (inl untold) cut moved = inl untold
+cut_told A (Err Output) input left mid mid' out out' Untold Emptied output well (inr emptied) cut moved = inl (output refl)
+cut_told A (Err (Refused fault)) input left mid mid' out out' Untold Emptied output well (inr emptied) cut moved =
+    inr (moved_cut A input left mid mid' out out' (Refused fault) (λ e. cc) (λ text written. moved text emptied written) cut)
+cut_told A (Err (BadFrame byte)) input left mid mid' out out' Untold Emptied output well (inr emptied) cut moved =
+    inr (moved_cut A input left mid mid' out out' (BadFrame byte) (λ e. cc) (λ text written. moved text emptied written) cut)
+cut_told A (Err (BadScript line)) input left mid mid' out out' Untold Emptied output well (inr emptied) cut moved =
+    inr (moved_cut A input left mid mid' out out' (BadScript line) (λ e. cc) (λ text written. moved text emptied written) cut)

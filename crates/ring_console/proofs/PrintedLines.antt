@@ -1,7 +1,7 @@
 -- The printed text, one line of a script after another.
 use Rattle.std.proofs.Common.{◌≡◌, ℕ, zero, suc, ◌+◌, ◌<◌, add-one, slice_get, Option, Some, None, take, drop, get_or, length, ◌++◌, List, [], ◌∷◌, inl}
 use Rattle.std.proofs.Common.{inr, Result, Ok, Err, refl, sym, ap, subst, ◌∙◌, append-nil, append_assoc}
-use Rattle.std.specs.Prelude.{IfOk, IfErr, ◌⊎◌, Bool, true}
+use Rattle.std.specs.Prelude.{IfOk, IfErr, IsOk, ◌⊎◌, Bool, true}
 use Rattle.ring_base.specs.Group.{Group}
 use Rattle.ring_base.proofs.Rows.{drop-next}
 use Rattle.std.specs.Io.KnownBytes.{Appends}
@@ -11,13 +11,16 @@ use Rattle.ring_object.specs.Operations.{Sequential}
 use Rattle.ring_script.specs.declared.line.ScriptLine.{ScriptLine}
 use Rattle.ring_script.specs.declared.line.ScriptLine.TheVariants.{Call, Deliver, Timeout, Noise, Stop, Cut, Heal, Pump, Show}
 use Rattle.ring_script.specs.declared.scripts.NumberedLine.{NumberedLine}
+use Rattle.ring_script.specs.declared.scripts.Script.{Script}
+use Rattle.ring_script.specs.Operations.{OperationForm}
+use Rattle.ring_script.specs.Scripts.{IsAllOf, IsScriptOfInputBy}
 use Rattle.ring_failure.specs.declared.failure.Failure.{Failure}
 use Rattle.ring_failure.specs.declared.failure.Failure.TheVariants.{Refused, BadFrame, BadScript, Output}
 use Rattle.ring_world.specs.WorldView.{WorldView}
 use Rattle.ring_world.specs.Rules.{Told}
 use Rattle.ring_failure.specs.Texts.{line_of}
 use Rattle.ring_console.specs.OutputLines.{told_text, one_text}
-use Rattle.ring_console.specs.Running.{RunView, HasPrinted, UnlessOutputFailed, IsLineDone, IsLineInterrupted, AreLinesDone, AreLinesInterrupted, IsTextOf, IsCutTextOf, IsVerdict, run_opening, legal_line, text_of}
+use Rattle.ring_console.specs.Running.{RunView, HasPrinted, UnlessOutputFailed, IsLineDone, IsLineInterrupted, AreLinesDone, AreLinesInterrupted, IsTextOf, IsCutTextOf, IsBrokenOff, IsVerdict, run_opening, legal_line, text_of}
 
 -- One property of the text implies another.
 pub printed_as : (old new : Option (List ℕ)) (P Q : List ℕ → Type 0) → ((text : List ℕ) → P text → Q text) → HasPrinted old new P → HasPrinted old new Q
@@ -144,6 +147,17 @@ pub at_true : {E : Type 0} (r : Result Bool E) (P : Bool → Type 0) → IfOk r 
 at_true (Ok b) P h e = let same : b ≡ true = cc in subst P same h
 at_true (Err x) P h e = absurd cc
 
+-- Nothing is reported of a run that was printed, or whose output failed, or whose text did not reach the output;
+-- otherwise its text breaks off.
+pub run_told : {T : Type 0} (done : Result T Failure) (first mid old new : Option (List ℕ)) (Untold Emptied : Type 0) (Holds : List ℕ → Type 0)
+    → (done ≡ Err Output → Untold) → (IsOk done → Untold) → Untold ⊎ Emptied → IfErr done (λ failure. (failure ≡ Output) ⊎ HasPrinted first mid Holds)
+    → ((text : List ℕ) → Emptied → Appends first mid text → Appends old new text) → Untold ⊎ HasPrinted old new Holds
+run_told (Ok x) first mid old new Untold Emptied Holds output well stands cut moved = inl (well refl)
+run_told (Err failure) first mid old new Untold Emptied Holds output well (inl untold) cut moved = inl untold
+run_told (Err failure) first mid old new Untold Emptied Holds output well (inr emptied) (inl failed) moved = inl (output (ap Err failed))
+run_told (Err failure) first mid old new Untold Emptied Holds output well (inr emptied) (inr printed) moved =
+    inr (record { text = printed.text; appended = moved printed.text emptied printed.appended; holds = printed.holds })
+
 -- The text of a run, and then that of the verdict.
 pub whole_text : {O A : Type 0} (object : Sequential O) (group : Group) (is_checked : Bool)
     (lines : List (NumberedLine A)) (r : Result Bool Failure) (old mid new : Option (List ℕ)) (opening ran : RunView A)
@@ -216,3 +230,12 @@ module _ {O A : Type 0} (object : Sequential O) (group : Group) (is_checked : Bo
           cut = inr (inr (checked, subst (λ (r : RunView A). AreLinesDone object lines r ran printed.text) first printed.holds));
         };
       })
+
+-- If the run of a script that was read breaks off, so does what is printed of the input.
+pub broken_off : {O A : Type 0} (Untold Unchanged : Type 0) (object : Sequential O) (forms : List OperationForm) (is_checked : Bool)
+    (input old new : Option (List ℕ)) (script : Script A) (bytes : List ℕ) → IsAllOf input bytes → IsScriptOfInputBy forms (Ok script) bytes
+    → Untold ⊎ HasPrinted old new (IsCutTextOf object script.nodes is_checked script.lines.items)
+    → Untold ⊎ (Unchanged ⊎ IsBrokenOff object A forms is_checked input old new)
+broken_off Untold Unchanged object forms is_checked input old new script bytes all is_script (inl untold) = inl untold
+broken_off Untold Unchanged object forms is_checked input old new script bytes all is_script (inr printed) =
+    inr (inr (record { script = script; bytes = bytes; all = all; is_script = is_script; printed = printed }))

@@ -1,5 +1,5 @@
 -- A script that runs turn by turn.
-use Rattle.std.proofs.Common.{◌≡◌, ℕ, zero, suc, ◌<◌, ◌≤◌, List, [], ◌∷◌, slice_get, Option, Some, None}
+use Rattle.std.proofs.Common.{◌≡◌, ℕ, zero, suc, ◌<◌, ◌≤◌, List, [], ◌∷◌, slice_get, Some, None}
 use Rattle.std.proofs.Common.{refl, sym, ap, subst, ◌∙◌, arith}
 use Rattle.ring_object.specs.Operations.{Sequential}
 use Rattle.ring_console.specs.Running.{OpenCopy, RunView, IsTurnDone, AreTurnsDone, IsPumpDone}

@@ -5,15 +5,17 @@ use Rattle.std.specs.Prelude.{Some, None, unwrap_or, Result, Ok, Err, ⊤, slice
 use Rattle.std.specs.Io.KnownBytes.{Appends}
 use Rattle.ring_base.specs.Group.{Group}
 use Rattle.ring_base.specs.Processors.{has}
-use Rattle.ring_base.specs.declared.fault.Fault.TheVariants.{Memory}
 use Rattle.ring_object.specs.Operations.{Sequential}
 use Rattle.ring_world.specs.Rules.{Node, node_known_log, node_length, node_trimmed, Event, IsLinearization, World, order}
 use Rattle.ring_world.specs.EventVariants as events
 use Rattle.ring_script.specs.declared.line.ScriptLine.{ScriptLine}
 use Rattle.ring_script.specs.declared.line.ScriptLine.TheVariants.{Call, Deliver, Timeout, Noise, Stop, Cut, Heal, Pump, Show}
 use Rattle.ring_script.specs.declared.scripts.NumberedLine.{NumberedLine}
+use Rattle.ring_script.specs.declared.scripts.Script.{Script}
+use Rattle.ring_script.specs.Operations.{OperationForm}
+use Rattle.ring_script.specs.Scripts.{IsAllOf, IsScriptOfInputBy}
 use Rattle.ring_failure.specs.declared.failure.Failure.{Failure}
-use Rattle.ring_failure.specs.declared.failure.Failure.TheVariants.{Output, Refused}
+use Rattle.ring_failure.specs.declared.failure.Failure.TheVariants.{Output}
 use Rattle.ring_failure.specs.Texts.{line_of, legal_text}
 pub use Rattle.ring_world.specs.declared.open_copies.OpenCopy.{OpenCopy}
 use Rattle.ring_world.specs.Pumping.{PumpView, IsUnchanged as PumpRests, HasRunEvent as PumpHappens}
@@ -216,3 +218,12 @@ module _ {O : Type 0} (object : Sequential O) where
     pub ran : RunView A
     pub cut : (text ≡ []) ⊎ (AreLinesInterrupted lines (run_opening group) ran text
         ⊎ ((is_checked ≡ true) × AreLinesDone lines (run_opening group) ran text))
+
+  -- The whole input was a script in a vocabulary with these forms, and the text of a run of it was printed that breaks
+  -- off where an allocation fails.
+  pub record IsBrokenOff (A : Type 0) (forms : List OperationForm) (is_checked : Bool) (input old new : Option (List ℕ)) : Type 0 where
+    pub script : Script A
+    pub bytes : List ℕ
+    pub all : IsAllOf input bytes
+    pub is_script : IsScriptOfInputBy forms (Ok script) bytes
+    pub printed : HasPrinted old new (IsCutTextOf script.nodes is_checked script.lines.items)

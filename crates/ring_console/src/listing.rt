@@ -14,7 +14,7 @@ use crate::frame_lines::add_frame;
 use crate::frame_reader::FrameReader;
 use crate::line_buffer::LineBuffer;
 use ring_base::Fault;
-use ring_failure::{BorrowedWriter, Failure, exit_status, report_failure};
+use ring_failure::{Failure, WriterSlot, exit_status, fill_slot, report_failure};
 use ring_wire::Frame;
 use std::alloc::Allocator;
 use std::io::{BufWriter, Read, Write};
@@ -28,8 +28,8 @@ use std::io::{BufWriter, Read, Write};
 /// - `Memory` if an allocation fails;
 /// - `out` fails, or there are 2^64 - 1 frames: nothing is reported.
 ///
-/// If an error is reported after the input was read at all, the lines of all earlier frames are on `out`. With
-/// `BadFrame` these are all frames that were read. The amount of memory doesn't depend on the input.
+/// If an error is reported, the lines of all earlier frames are on `out`. With `BadFrame` these are all frames that were
+/// read. The amount of memory doesn't depend on the input.
 ///
 /// Formats: Listing frames
 pub fn frames<A: Allocator + Copy, R: Read, O: Write, E: Write>(
@@ -42,16 +42,19 @@ pub fn frames<A: Allocator + Copy, R: Read, O: Write, E: Write>(
     ensures quiet { result ≡ 0 → Keeps (E.contents err.old) (E.contents err.new) }
     ensures frame_lines { result ≡ 0 → IsListed A (R.remaining input.old) (R.remaining input.new)
         (O.contents out.old) (O.contents out.new) }
-    ensures cut { result ≡ 1 → (err.new ≡ err.old) ⊎ ((input.new ≡ input.old)
-        ⊎ IsCutListing A (R.remaining input.old) (R.remaining input.new) (O.contents out.old) (O.contents out.new)) }
+    ensures cut { result ≡ 1 → (err.new ≡ err.old)
+        ⊎ IsCutListing A (R.remaining input.old) (R.remaining input.new) (O.contents out.old) (O.contents out.new) }
 {
-    match BufWriter::new(alloc, BorrowedWriter { writer: out }) {
+    match BufWriter::new(alloc, WriterSlot { writer: None }) {
         Ok(mut buffer) => {
+            fill_slot(&mut buffer, out);
             let done = list_frames(alloc, input, &mut buffer);
             let status = exit_status(&mut buffer, err, done);
-            let (BorrowedWriter { writer }, _) = buffer.into_parts();
+            let (WriterSlot { writer }, _) = buffer.into_parts();
             // No effect at run time. The proof reads the contents of `out` from this use.
-            let _ = &*writer;
+            if let Some(writer) = writer {
+                let _ = &*writer;
+            }
             status
         }
         Err(_) => report_failure(err, Failure::Refused(Fault::Memory)),

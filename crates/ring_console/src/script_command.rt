@@ -14,13 +14,13 @@ ghost use Rattle.ring_script.specs.ShelfVocabulary.{shelf_operation_forms};
 ghost use Rattle.ring_script.specs.declared.scripts.Script.{Script};
 ghost use Rattle.ring_failure.specs.Failures.{IsOutputOrMemory};
 ghost use Rattle.ring_failure.specs.declared.failure.Failure.TheVariants.{Output};
-ghost use Rattle.ring_console.specs.Running.{HasPrinted, run_opening, IsTextOf, IsCutTextOf, IsLegal, IsVerdict, legal_line};
+ghost use Rattle.ring_console.specs.Running.{HasPrinted, run_opening, IsTextOf, IsCutTextOf, IsBrokenOff, IsLegal, IsVerdict, legal_line};
 
 use crate::printed_lines::print_legal;
 use crate::script_run::ScriptRun;
 use ring_base::Fault;
 use ring_checker::is_linearization;
-use ring_failure::{BorrowedWriter, Failure, NOT_LEGAL, exit_status, report_failure};
+use ring_failure::{Failure, NOT_LEGAL, WriterSlot, exit_status, fill_slot, report_failure};
 use ring_object::Object;
 use ring_script::{Script, ShelfVocabulary, Vocabulary};
 use ring_things::StandardObjects;
@@ -36,8 +36,9 @@ use std::io::{BufWriter, Read, Write};
 /// - `Memory` if an allocation for the reading or for the run itself fails;
 /// - `out` fails: nothing is reported.
 ///
-/// With `Memory`, the lines of all earlier events are on `out`. At status 0 the whole input was a script, and the
-/// printed text is that of a run of it.
+/// If an error is reported, either nothing is printed, or the whole input was a script and the printed text is that of a
+/// run of it until an allocation fails: the lines of all earlier events. At status 0 the whole input was a script, and
+/// the printed text is that of a run of it.
 ///
 /// Formats: What a script prints; The command line
 pub fn script<A: Allocator + Copy + Drop, R: Read, O: Write, E: Write>(
@@ -51,6 +52,9 @@ pub fn script<A: Allocator + Copy + Drop, R: Read, O: Write, E: Write>(
     ensures printed { let object = ⟦<StandardObjects<A> as Object>⟧ in
         result ≡ 0 → (script : Script A) × (bytes : List ℕ) × IsAllOf (R.remaining input.old) bytes × IsScriptOfInput (Ok script) bytes
         × HasPrinted (O.contents out.old) (O.contents out.new) (IsTextOf object.sequential script.nodes false script.lines.items true) }
+    ensures cut { let object = ⟦<StandardObjects<A> as Object>⟧ in
+        result ≡ 1 → (err.new ≡ err.old) ⊎ ((out.new ≡ out.old)
+        ⊎ IsBrokenOff object.sequential A shelf_operation_forms false (R.remaining input.old) (O.contents out.old) (O.contents out.new)) }
     ensures no_script { (bytes : List ℕ) → R.remaining input.old ≡ Some bytes → IsNoScript shelf_operation_forms bytes → (result ≡ 1) × (out.new ≡ out.old) }
 {
     script_of::<StandardObjects<A>, ShelfVocabulary, R, O, E>(alloc, input, false, out, err)
@@ -59,7 +63,7 @@ pub fn script<A: Allocator + Copy + Drop, R: Read, O: Write, E: Write>(
 /// Runs a script as [`script`] does, and then prints `legal yes` or `legal no`: whether the order of the run's world is
 /// legal for its history.
 ///
-/// The checker has only the order and the history. The exit status is 1 after `legal no` too.
+/// The checker has only the order and the history. The exit status is 1 after `legal no` too, but nothing is reported.
 ///
 /// Errors: as for [`script`].
 ///
@@ -76,6 +80,9 @@ pub fn script_check<A: Allocator + Copy + Drop, R: Read, O: Write, E: Write>(
     ensures printed { let object = ⟦<StandardObjects<A> as Object>⟧ in
         result ≡ 0 → (script : Script A) × (bytes : List ℕ) × IsAllOf (R.remaining input.old) bytes × IsScriptOfInput (Ok script) bytes
         × HasPrinted (O.contents out.old) (O.contents out.new) (IsTextOf object.sequential script.nodes true script.lines.items true) }
+    ensures cut { let object = ⟦<StandardObjects<A> as Object>⟧ in
+        result ≡ 1 → (err.new ≡ err.old) ⊎ ((out.new ≡ out.old)
+        ⊎ IsBrokenOff object.sequential A shelf_operation_forms true (R.remaining input.old) (O.contents out.old) (O.contents out.new)) }
     ensures no_script { (bytes : List ℕ) → R.remaining input.old ≡ Some bytes → IsNoScript shelf_operation_forms bytes → (result ≡ 1) × (out.new ≡ out.old) }
 {
     script_of::<StandardObjects<A>, ShelfVocabulary, R, O, E>(alloc, input, true, out, err)
@@ -100,6 +107,8 @@ pub fn script_of<T: Object, V: Vocabulary, R: Read, O: Write, E: Write>(
     ensures printed { result ≡ 0 → (script : Script T.Alloc) × (bytes : List ℕ) × IsAllOf (R.remaining input.old) bytes
         × IsScriptOfInputBy V.forms (Ok script) bytes
         × HasPrinted (O.contents out.old) (O.contents out.new) (IsTextOf T.sequential script.nodes is_checked script.lines.items true) }
+    ensures cut { result ≡ 1 → (err.new ≡ err.old) ⊎ ((out.new ≡ out.old)
+        ⊎ IsBrokenOff T.sequential T.Alloc V.forms is_checked (R.remaining input.old) (O.contents out.old) (O.contents out.new)) }
     ensures no_script { (bytes : List ℕ) → R.remaining input.old ≡ Some bytes → IsNoScript V.forms bytes → (result ≡ 1) × (out.new ≡ out.old) }
 {
     match Script::read_by::<V, R>(alloc, input) {
@@ -120,14 +129,19 @@ fn print_run<T: Object, O: Write, E: Write>(
     ensures status { result ≤ 1 }
     ensures quiet { result ≡ 0 → Keeps (E.contents err.old) (E.contents err.new) }
     ensures printed { result ≡ 0 → HasPrinted (O.contents out.old) (O.contents out.new) (IsTextOf T.sequential script.nodes is_checked script.lines.items true) }
+    ensures cut { result ≡ 1 → (err.new ≡ err.old)
+        ⊎ HasPrinted (O.contents out.old) (O.contents out.new) (IsCutTextOf T.sequential script.nodes is_checked script.lines.items) }
 {
-    match BufWriter::new(alloc, BorrowedWriter { writer: out }) {
+    match BufWriter::new(alloc, WriterSlot { writer: None }) {
         Ok(mut buffer) => {
+            fill_slot(&mut buffer, out);
             let done = ScriptRun::<T>::print_script(alloc, script, is_checked, &mut buffer);
             let status = verdict_status(&mut buffer, err, done);
-            let (BorrowedWriter { writer }, _) = buffer.into_parts();
+            let (WriterSlot { writer }, _) = buffer.into_parts();
             // No effect at run time. The proof reads the contents of `out` from this use.
-            let _ = &*writer;
+            if let Some(writer) = writer {
+                let _ = &*writer;
+            }
             status
         }
         Err(_) => report_failure(err, Failure::Refused(Fault::Memory)),

@@ -1,5 +1,5 @@
 pub mod Failures
-pub mod BorrowedWriters
+pub mod WriterSlots
 pub mod Texts
 pub mod Shares
 pub mod Progress

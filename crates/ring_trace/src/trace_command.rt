@@ -13,7 +13,7 @@ use crate::selection::{Selection, SelectionFault};
 use crate::tracer::Tracer;
 use ring_base::Fault;
 use ring_console::{Failure, Script, ShelfVocabulary, StandardObjects, Vocabulary, report_failure};
-use ring_failure::{BorrowedWriter, FAILED, exit_status};
+use ring_failure::{FAILED, WriterSlot, exit_status, fill_slot};
 use ring_object::Object;
 use ring_trace_formats::{ReplyVocabulary, TraceFormat, TracePrinter, TraceVocabulary};
 use std::alloc::Global;
@@ -84,8 +84,9 @@ pub fn trace_of<
     ensures whole { result ≡ 0 → (script : Script Heap) × IsScriptOfInputBy V.forms (Ok script) text.now
         × HasWrittenFrames T.sequential script (F.contents frames.old) (F.contents frames.new) }
 {
-    match BufWriter::new(alloc, BorrowedWriter { writer: out }) {
+    match BufWriter::new(alloc, WriterSlot { writer: None }) {
         Ok(mut buffer) => {
+            fill_slot(&mut buffer, out);
             let mut fault = None;
             let done = trace_text::<T, V, _, F>(
                 alloc,

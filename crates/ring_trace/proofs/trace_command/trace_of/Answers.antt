@@ -1,4 +1,4 @@
-use Rattle.ring_failure.proofs.BorrowedWriterLemmas.{at_ok}
+use Rattle.ring_failure.proofs.WriterSlotLemmas.{at_ok}
 use Rattle.ring_trace.proofs.trace_command.trace_of.Goals as goal
 
 pub returns-in-Ok-clause-whole : goal.returns-in-Ok-clause-whole
