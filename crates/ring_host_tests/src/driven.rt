@@ -43,7 +43,7 @@ pub struct DrivenHost<O: Object, K: BookName<O::Alloc>> {
     second: Seat<O::Alloc>,
     third: Seat<O::Alloc>,
     foreign_seat: Seat<O::Alloc>,
-    ghost at: { (first.gauge ≡ host) × (second.gauge ≡ host) × (third.gauge ≡ host) × (foreign_seat.gauge ≡ host) },
+    ghost at: { (first.gauge ≡ host.gauge) × (second.gauge ≡ host.gauge) × (third.gauge ≡ host.gauge) × (foreign_seat.gauge ≡ host.gauge) },
 }
 
 impl<O: Object, K: BookName<O::Alloc>> DrivenHost<O, K> {
