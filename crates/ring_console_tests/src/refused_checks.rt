@@ -59,7 +59,10 @@ fn each_request_of_a_check_may_be_refused(rt: HostRuntime) {
     };
     assert!(rt; result == Ok(true));
     let requests = ample.request_count();
-    assert!(rt; requests.saturating_sub(earlier) > 1, "{earlier} of {requests}");
+    assert!(rt;
+        requests.saturating_sub(earlier) > 1,
+        "{earlier} of {requests}"
+    );
     for passed in earlier..requests {
         let heap = RefusingHeap::new(rt.alloc(), passed);
         let told = check_of(&heap, rt.alloc());
