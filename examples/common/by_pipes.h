@@ -1,6 +1,7 @@
 /* The node is another program, `totem node`; its records cross two pipes. Those that are written wait in a buffer until a report
  * is read. */
 #include <fcntl.h>
+#include <sched.h>
 #include <stdio.h>
 #include <stdlib.h>
 #include <sys/wait.h>
@@ -25,11 +26,24 @@ static void end_early(void) {
     end("the node ended before its input");
 }
 
+/* The two programs take turns. So the node is kept on the processor on which this one runs, where it wakes up soonest. */
+static void keep_node_here(void) {
+    static int node_processor = -1;
+    int here = sched_getcpu();
+    cpu_set_t only;
+    if (here == node_processor || here < 0 || here >= CPU_SETSIZE) return;
+    CPU_ZERO(&only);
+    CPU_SET((unsigned)here, &only);
+    sched_setaffinity(node, sizeof only, &only);
+    node_processor = here;
+}
+
 static void write_record(const unsigned char *bytes, size_t length) {
     if (fwrite(bytes, 1, length, to_node) != length) end_early();
 }
 
 static void read_bytes(unsigned char *bytes, size_t length) {
+    keep_node_here();
     if (fflush(to_node) || fread(bytes, 1, length, from_node) != length) end_early();
 }
 

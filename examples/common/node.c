@@ -44,11 +44,11 @@ static uint64_t taken_at;         /* the time at which it took its last token */
 static uint64_t seen_at, not_run; /* when this process was last seen to run, and for how long it didn't */
 static int has_paused;
 
-static int is_idle(void) { return node_view.is_operational && quiet_tokens > IDLE_TOKENS; }
+int is_ring_idle(void) { return node_view.is_operational && quiet_tokens > IDLE_TOKENS; }
 
 /* While the ring is idle, the node is brought the time up to so many milliseconds later than it wants it: mostly with the token
  * then, so that both cost one wake-up. */
-static uint64_t lateness(void) { return is_idle() ? group.periods[RETRANSMIT] : 0; }
+static uint64_t lateness(void) { return is_ring_idle() ? group.periods[RETRANSMIT] : 0; }
 
 /* The node wants the time within join, and reports come more often. So what passes above that between two looks, this process was
  * stopped, or waited for a processor. */
@@ -202,7 +202,7 @@ void take_frame(const unsigned char *frame, size_t length) {
     release_token();
     if (!is_token) quiet_tokens = 0;
     if (length == 0) return;
-    if (!is_token || !is_idle()) {
+    if (!is_token || !is_ring_idle()) {
         give_frame(frame, length);
         return;
     }

@@ -36,6 +36,9 @@ uint64_t next_due_time(void);
  * what waits in the socket is old, and the others have gone on. */
 int end_pause(void);
 
+/* Whether the node is in a ring whose last tokens brought nothing. Then the token rests at times. */
+int is_ring_idle(void);
+
 /* Asks the node for the lengths of its log. */
 void refresh_view(void);
 

@@ -15,6 +15,8 @@
 #include <signal.h>
 #include <stdio.h>
 
+enum { MOST_LOOKING = 30 }; /* the microseconds that a round looks for frames before it sleeps */
+
 static volatile sig_atomic_t has_to_end;
 
 static void note_signal(int number) {
@@ -22,15 +24,27 @@ static void note_signal(int number) {
     has_to_end = 1;
 }
 
+/* Returns how many of the files can be read or written, once one can or something is due; below 0 at a signal. In a busy ring a
+ * frame mostly comes sooner than a process that sleeps wakes up. So it looks again and again at first. */
+static int wait_for_files(struct pollfd *waits, size_t count) {
+    const struct timespec none = {0};
+    uint64_t begin = now(), due = next_due_time(), wait = due > begin ? due - begin : 0;
+    int ready = 0;
+    if (!is_ring_idle())
+        do ready = ppoll(waits, count, &none, NULL);
+        while (ready == 0 && now() < begin + (wait < MOST_LOOKING ? wait : MOST_LOOKING));
+    if (ready != 0) return ready;
+    struct timespec left = {.tv_sec = (time_t)(wait / SECOND), .tv_nsec = (long)(wait % SECOND) * 1000};
+    return ppoll(waits, count, &left, NULL);
+}
+
 /* Waits for a frame, a client, or the time at which something is due. */
 static void wait_for_events(int peer_socket, int listener) {
     static struct pollfd waits[2 + MAX_CONNECTIONS];
-    uint64_t time = now(), due = next_due_time(), wait = due > time ? due - time : 0;
-    struct timespec left = {.tv_sec = (time_t)(wait / SECOND), .tv_nsec = (long)(wait % SECOND) * 1000};
     waits[0] = (struct pollfd){.fd = peer_socket, .events = POLLIN};
     waits[1] = (struct pollfd){.fd = listener, .events = POLLIN};
     size_t count = list_events(waits + 2);
-    if (ppoll(waits, 2 + count, &left, NULL) <= 0) return;
+    if (wait_for_files(waits, 2 + count) <= 0) return;
     handle_events(waits + 2, count);
     if (waits[1].revents) accept_connections(listener);
 }
