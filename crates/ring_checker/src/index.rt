@@ -7,7 +7,6 @@ ghost use Rattle.std.specs.BTreeMap.{get};
 ghost use Rattle.std.specs.Ordering.{nat_cmp};
 ghost use Rattle.ring_base.specs.declared.fault.Fault.TheVariants.{Memory};
 ghost use Rattle.ring_session.specs.Deduplicated.{IsCallAt, IsNumbered};
-ghost use Rattle.ring_session.specs.SessionAnswer.{is_same};
 ghost use Rattle.ring_checker.specs.Checks.{place_in, place_at, place_by_call_number, places_of, AddsPlace, IsIndexOf};
 
 use ring_base::Fault;
@@ -188,7 +187,7 @@ fn is_call_at<A: Allocator + Copy>(order: &[Call<A>], place: usize, call: &Call<
     ensures { IsTrue result → IsCallAt order.now place call.now }
 {
     match order.get(place) {
-        Some(other) => is_same_numbered_call(call, other),
+        Some(other) => call.equals_call(other),
         None => false,
     }
 }
@@ -205,7 +204,7 @@ fn place_by_index<A: Allocator + Copy>(
     let Some(place) = place_at(index, call.client, call.number) else {
         return None;
     };
-    if is_same_numbered_call(call, &order[place]) {
+    if call.equals_call(&order[place]) {
         Some(place)
     } else {
         None
@@ -230,13 +229,4 @@ fn place_by_number<A: Allocator + Copy>(row: &Vec<usize, A>, number: u64) -> Opt
         return None;
     }
     row.get((number - 1) as usize).copied()
-}
-
-/// Returns whether two calls have the same client, number and operation.
-fn is_same_numbered_call<A: Allocator + Copy>(call: &Call<A>, other: &Call<A>) -> bool
-    ensures { result ≡ is_same call.now other.now }
-{
-    other.client == call.client
-        && other.number == call.number
-        && other.op.as_slice() == call.op.as_slice()
 }

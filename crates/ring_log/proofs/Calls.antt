@@ -10,7 +10,7 @@ use Rattle.std.proofs.lemmas.List.{append-nil, take-append-drop, take-append-le,
 use Rattle.ring_base.specs.Prefixes.{IsListPrefix}
 use Rattle.ring_base.specs.Numbers.{max_number}
 use Rattle.ring_base.specs.declared.ring_id.RingId.{RingId}
-use Rattle.ring_base.proofs.ListFronts.{take-longer_list}
+use Rattle.ring_base.proofs.ListFronts.{take-longer_list, taken-front, take-whole}
 use Rattle.ring_wire.specs.Payloads.{Call as OneCall, is_same, is_same-true, is_same-self}
 use Rattle.ring_log.specs.declared.base.Base.{Base}
 use Rattle.ring_log.specs.Logs.{Log, log_length, appended, log_with_calls_if_room, calls_after_base, restores, restored_log, joined_log, log_after_base, log_after_base_if_may, trimmed_log}
@@ -67,23 +67,17 @@ begins_based n m gone same dropped own front calls received_calls r is_front is_
     is ∙ ap (λ w. begins w (take (length received_calls - dropped) (drop dropped received_calls))) rest ∙ ap (begins (drop m (take n own))) taken
     ∙ sym (begins-kept n m own (drop gone calls))
 
-decided : (r : Bool) (P : Type 0) → (IsTrue r ↔ P) → Decides r P
-decided r P tells = (tells.0, tells.1)
-
--- the test of a prefix that is no longer than the list
-pub begins-same : {A : Type 0} (front calls : List (OneCall A)) (r : Bool) → (IsTrue r ↔ (front ≡ take (length front) calls)) → r ≡ begins front calls
-begins-same front calls r tells = one_answer r (begins front calls) (decided r (front ≡ take (length front) calls) tells) (begins-Decides front calls)
+-- a test of prefixes is the definition's
+pub begins-same : {A : Type 0} (front calls : List (OneCall A)) (r : Bool) → (IsTrue r ↔ IsListPrefix front calls) → r ≡ begins front calls
+begins-same front calls r tells =
+    one_answer r (begins front calls) (
+      λ is. sym (take-whole front calls (tells.0 is)),
+      λ same. tells.1 (subst (λ xs. IsListPrefix xs calls) (sym same) (taken-front (length front) calls)),
+    ) (begins-Decides front calls)
 
 pub never : (b : Bool) → (b ≡ true → ⊥) → b ≡ false
 never true not = absurd (not refl)
 never false not = refl
-
--- a longer list is no prefix of a shorter one
-pub begins-short : {A : Type 0} (front calls : List (OneCall A)) → length calls < length front → begins front calls ≡ false
-begins-short front calls short =
-    never (begins front calls) (λ is.
-    let same = (begins-Decides front calls).0 is in
-    omega (arith, ap length same, length-take (length front) calls))
 
 -- ---- the committed places
 

@@ -5,7 +5,6 @@
 
 mod adoption;
 mod base;
-mod call_lists;
 mod examples;
 mod exchange;
 mod heads;

@@ -11,10 +11,10 @@ ghost use Rattle.ring_log.specs.Logs.{committed_log, trimmed_log, head_of, begin
 
 use crate::adoption::Adoption;
 use crate::base::Base;
-use crate::call_lists::is_call_prefix;
 use crate::parts::parts_from_calls;
 use crate::wanted::Wanted;
 use ring_base::{Fault, MAX, RingId};
+use ring_payload::is_call_prefix;
 use ring_wire::{Call, CallList, Head, Part};
 use std::alloc::{AllocError, Allocator, Global};
 use std::marker::Model;

@@ -23,6 +23,7 @@ pub use content::{Payload, Wrapped, WrappedPayload};
 pub use frame_versions::FIRST_VERSION;
 pub use head::Head;
 pub use operation::{CallOperation, MAX_OPERATION};
+pub use payload_equality::{are_same_calls, is_call_prefix};
 pub use piece::PieceBytes;
 pub use ring_codec::{
     Decode, Encode, EncodedNumbers, Fault, Ghost, MAX, PROCESSORS, Proc, ProcSet, Reader, RingId,

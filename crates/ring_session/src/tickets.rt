@@ -156,16 +156,7 @@ impl<A: Allocator + Copy + Drop> Tickets<A> {
 fn is_same_call_by_number<A: Allocator + Copy>(call: &Call<A>, other: &Call<A>) -> bool
     ensures { result ≡ is_same call.now other.now }
 {
-    other.number == call.number && is_equal_call(call, other)
-}
-
-/// Returns whether the two calls have the same client, number and operation.
-fn is_equal_call<A: Allocator + Copy>(call: &Call<A>, other: &Call<A>) -> bool
-    ensures { result ≡ is_same call.now other.now }
-{
-    other.client == call.client
-        && other.number == call.number
-        && other.op.as_slice() == call.op.as_slice()
+    other.number == call.number && call.equals_call(other)
 }
 
 /// Returns a copy of the call.

@@ -1,5 +1,4 @@
 -- Absent: A number past that of the last variant has no variant.
--- Fronting: Whether calls are a prefix of an order.
 -- Gapping: The run of a script from position to position among its lines, up to one of its events.
 -- Inserted: A script's text with the lines of an injection put in.
 -- Legality: Whether a run is legal.
@@ -10,7 +9,6 @@
 -- Trying: The variants are run one after another, in ranges one after the other.
 -- Walking: A running script, one step after another, and the effect of its steps.
 pub mod Absent
-pub mod Fronting
 pub mod Gapping
 pub mod Inserted
 pub mod Legality

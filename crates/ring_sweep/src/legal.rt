@@ -15,7 +15,7 @@ ghost use Rattle.ring_sweep.specs.Legal.{IsLegal, ArePrefixes};
 use ring_base::{Fault, Proc};
 use ring_console::{World, is_linearization};
 use ring_object::Object;
-use ring_payload::Call;
+use ring_payload::{Call, is_call_prefix};
 use ring_session::effects_of;
 use std::alloc::Allocator;
 
@@ -106,29 +106,5 @@ fn is_prefix<A: Allocator + Copy + Drop>(
     ensures refused { IfErr result (λ fault. fault ≡ Memory) }
 {
     let effects = effects_of(alloc, calls)?;
-    Ok(begins_with_calls(order, effects.as_slice()))
-}
-
-/// Returns whether the order begins with the calls.
-fn begins_with_calls<A: Allocator + Copy>(order: &[Call<A>], calls: &[Call<A>]) -> bool
-    ensures { IsTrue result ↔ IsListPrefix calls.now order.now }
-{
-    if calls.len() > order.len() {
-        return false;
-    }
-    for (place, call) in calls.iter().enumerate() {
-        if !are_equal_calls(call, &order[place]) {
-            return false;
-        }
-    }
-    true
-}
-
-/// Returns whether the two are the same call: the same client, number and operation.
-fn are_equal_calls<A: Allocator + Copy>(call: &Call<A>, other: &Call<A>) -> bool
-    ensures { IsTrue result ↔ (call.now ≡ other.now) }
-{
-    other.client == call.client
-        && other.number == call.number
-        && other.op.as_slice() == call.op.as_slice()
+    Ok(is_call_prefix(effects.as_slice(), order))
 }

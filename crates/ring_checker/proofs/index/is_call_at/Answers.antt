@@ -7,4 +7,4 @@ use Rattle.ring_checker.proofs.index.is_call_at.Goals as goal
 pub returns-in-Some : goal.returns-in-Some
 returns-in-Some g c = λ so.
     let at : slice_get c.args.order.now c.args.place ≡ Some c.in-Some.other.now = grind (arith, common_steps, gets, c.in-Some.ensures.lookup) in
-    at ∙ ap Some (is_same-true c.args.call.now c.in-Some.other.now (sym c.is_same_numbered_call.ensures ∙ so))
+    at ∙ ap Some (is_same-true c.args.call.now c.in-Some.other.now (sym c.equals_call.ensures.value ∙ so))

@@ -19,18 +19,18 @@ bounds-order-place g c =
     let there = c.requires.found (call.client, call.number) c.in-Some.place (sym c.in-Some.ensures) in
     slice_get_within c.args.order.now c.in-Some.place there.0 there.2
 
-pub returns-then-is_same_numbered_call : goal.returns-then-is_same_numbered_call
-returns-then-is_same_numbered_call g c =
+pub returns-then-equals_call : goal.returns-then-equals_call
+returns-then-equals_call g c =
     let order = c.args.order.now in
     let call = c.args.call.now in
     let place = c.in-Some.place in
     let other = c.index-order-place.result in
     let there = c.requires.found (call.client, call.number) place (sym c.in-Some.ensures) in
     let at = slice_get_read order (length order) place other refl (slice_get_within order place there.0 there.2) c.index-order-place.is in
-    place-found order c.args.index.now place call other c.requires at (sym c.is_same_numbered_call.ensures ∙ c.if-is_same_numbered_call.true)
+    place-found order c.args.index.now place call other c.requires at (sym c.equals_call.ensures.value ∙ c.if-equals_call.true)
 
-pub returns-else-is_same_numbered_call : goal.returns-else-is_same_numbered_call
-returns-else-is_same_numbered_call g c =
+pub returns-else-equals_call : goal.returns-else-equals_call
+returns-else-equals_call g c =
     let order = c.args.order.now in
     let call = c.args.call.now in
     let place = c.in-Some.place in
@@ -38,4 +38,4 @@ returns-else-is_same_numbered_call g c =
     let is = sym c.in-Some.ensures in
     let there = c.requires.found (call.client, call.number) place is in
     let at = slice_get_read order (length order) place other refl (slice_get_within order place there.0 there.2) c.index-order-place.is in
-    place-other order c.args.index.now place call other c.requires is at (sym c.is_same_numbered_call.ensures ∙ c.if-is_same_numbered_call.false)
+    place-other order c.args.index.now place call other c.requires is at (sym c.equals_call.ensures.value ∙ c.if-equals_call.false)
