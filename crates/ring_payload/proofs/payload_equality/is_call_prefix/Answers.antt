@@ -8,8 +8,7 @@ use Rattle.ring_payload.proofs.payload_equality.is_call_prefix.Goals as goal
 pub returns-then-front-calls : goal.returns-then-front-calls
 returns-then-front-calls g c =
     let front = c.args.front.now in
-    let calls = c.args.calls.now in
-    (
+    let calls = c.args.calls.now in (
       λ same. subst (λ xs. IsListPrefix xs calls) (sym (c.are_same_calls.ensures.0 same)) (taken-front (length front) calls),
       λ prefix. c.are_same_calls.ensures.1 (sym (take-whole front calls prefix)),
     )
