@@ -9,7 +9,7 @@ use Rattle.ring_failure.specs.declared.failure.Failure.{Failure}
 use Rattle.ring_failure.specs.Texts.{line_of, legal_text}
 use Rattle.ring_sweep.specs.declared.sweeping.SweepResult.{SweepResult}
 use Rattle.ring_sweep.specs.declared.injection.InjectionKind.{InjectionKind}
-use Rattle.ring_sweep.specs.declared.injection.InjectionKind.TheVariants as blows
+use Rattle.ring_sweep.specs.declared.injection.InjectionKind.TheVariants as injections
 use Rattle.ring_sweep.specs.declared.injection.Injection.{Injection}
 use Rattle.ring_sweep.specs.Variants.{HasEvents, AreTried}
 
@@ -31,8 +31,8 @@ sweep_text swept =
 
 -- The kind of an injection, as a script names it.
 abbrev pub injection_kind_name : InjectionKind → List ℕ
-injection_kind_name blows.Stop = codes "stop"
-injection_kind_name blows.Cut = codes "cut"
+injection_kind_name injections.Stop = codes "stop"
+injection_kind_name injections.Cut = codes "cut"
 
 -- An injection into a run with this number of events; its event is counted from 1.
 abbrev pub injection_text : ℕ → Injection → List ℕ

@@ -11,7 +11,7 @@ use Rattle.ring_script.specs.declared.line.ScriptLine.TheVariants.{Pump}
 use Rattle.ring_script.specs.declared.scripts.NumberedLine.{NumberedLine}
 use Rattle.ring_failure.specs.Texts.{line_of}
 use Rattle.ring_sweep.specs.declared.injection.InjectionKind.{InjectionKind}
-use Rattle.ring_sweep.specs.declared.injection.InjectionKind.TheVariants as blows
+use Rattle.ring_sweep.specs.declared.injection.InjectionKind.TheVariants as injections
 use Rattle.ring_sweep.specs.declared.injection.Injection.{Injection}
 use Rattle.ring_sweep.specs.declared.script_position.ScriptPosition.{ScriptPosition}
 use Rattle.ring_sweep.specs.ScriptPositions.{IsScriptPosition}
@@ -30,8 +30,8 @@ other_nodes node (suc count) = other_nodes node count ++ (if node == suc count t
 
 -- The line of an injection of this kind. The cut of the only node has none.
 abbrev pub injection_line : InjectionKind → ℕ → ℕ → List ℕ
-injection_line blows.Stop node count = line_of (codes "stop " ++ decimal node)
-injection_line blows.Cut node count =
+injection_line injections.Stop node count = line_of (codes "stop " ++ decimal node)
+injection_line injections.Cut node count =
     if nat_lt count 2 then [] else line_of (codes "cut " ++ decimal node ++ codes " " ++ join_by decimal (codes ",") (other_nodes node count))
 
 -- The comment and the line of an injection into a script with `count` nodes.

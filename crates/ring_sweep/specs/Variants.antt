@@ -11,7 +11,7 @@ use Rattle.ring_script.specs.declared.scripts.NumberedLine.{NumberedLine}
 use Rattle.ring_console.specs.Running.{OpenCopy}
 use Rattle.ring_console.specs.Running.{RunView, run_opening, is_connected, IsLineDone}
 use Rattle.ring_sweep.specs.declared.injection.InjectionKind.{InjectionKind}
-use Rattle.ring_sweep.specs.declared.injection.InjectionKind.TheVariants as blows
+use Rattle.ring_sweep.specs.declared.injection.InjectionKind.TheVariants as injections
 use Rattle.ring_sweep.specs.declared.injection.Injection.{Injection}
 use Rattle.ring_sweep.specs.Legal.{IsLegal}
 
@@ -63,8 +63,8 @@ bit false = 0
 
 -- The script line for this kind of injection and this node.
 abbrev pub line_of_injection_kind : {A : Type 0} → InjectionKind → ℕ → ScriptLine A
-line_of_injection_kind blows.Stop node = Stop node
-line_of_injection_kind blows.Cut node = Cut (isolation node)
+line_of_injection_kind injections.Stop node = Stop node
+line_of_injection_kind injections.Cut node = Cut (isolation node)
 
 -- The script line for an injection.
 abbrev pub line_of_injection : {A : Type 0} → Injection → ScriptLine A
@@ -76,7 +76,7 @@ abbrev pub injection_at : ℕ → ℕ → Injection
 injection_at count place = record {
   before = place / (2 * count);
   node = place % (2 * count) / 2 + 1;
-  injection_kind = if place % 2 == 0 then blows.Stop else blows.Cut;
+  injection_kind = if place % 2 == 0 then injections.Stop else injections.Cut;
 }
 
 -- The first variant that is not legal, of those before this one and this one.
