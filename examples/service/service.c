@@ -3,7 +3,6 @@
  * is proved. */
 #define _GNU_SOURCE
 #include "../common/clock.h"
-#include "../common/datagrams.h"
 #include "../common/group.h"
 #include "../common/node.h"
 #include "calls.h"
@@ -56,11 +55,11 @@ static void do_round(void) {
     take_frames();
     bring_time();
     finish_inputs();
-    flush_datagrams();
+    flush_frames();
     run_commands(); /* those behind commands that were answered */
     finish_inputs();
     send_replies();
-    flush_datagrams();
+    flush_frames();
 }
 
 int main(int count, char **words) {
