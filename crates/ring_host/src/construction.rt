@@ -11,13 +11,13 @@ use crate::INBOX;
 use crate::event_count::EventCount;
 use crate::host::{Host, HostOf};
 use crate::inbox::Inbox;
+use crate::latch::AtomicLatch;
 use ring_base::Fault;
 use ring_book::{Book, BookName, Cell, Opening};
 use ring_object::Object;
 use ring_seat::{Gauge, Seat};
 use std::alloc::Allocator;
 use std::sync::Mutex;
-use std::sync::atomic::AtomicBool;
 
 impl<O: Object, K: BookName<O::Alloc>> HostOf<Cell<O, K>, Book<O, K>, O::Alloc> {
     /// Creates the host of the opening, and its seats.
@@ -80,7 +80,7 @@ impl<O: Object, K: BookName<O::Alloc>> HostOf<Cell<O, K>, Book<O, K>, O::Alloc> 
             inbox_size: size,
             gauge,
             event_count: EventCount::new(),
-            closed: AtomicBool::new(false),
+            closed: AtomicLatch::new(),
             book: Mutex::new(book),
         };
         Ok((host, seats))

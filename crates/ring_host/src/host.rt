@@ -21,6 +21,7 @@ use crate::gate::YieldingGate;
 use crate::gated_turn::turn_report;
 use crate::inbox::Inbox;
 use crate::inbox_frame_and_task::Task;
+use crate::latch::{AtomicLatch, Latch};
 use crate::locked_node::LockedNode;
 use crate::locking::lock_after_spinning;
 use crate::turn::Turn;
@@ -33,7 +34,6 @@ use ring_session::{Answer, Ticket};
 use ring_wire::Frame;
 use std::alloc::{Allocator, Global};
 use std::marker::Model;
-use std::sync::atomic::{AtomicBool, Ordering};
 use std::sync::{Mutex, Wait};
 
 /// The ticket of a call that was submitted at a node of the host.
@@ -51,14 +51,15 @@ pub struct HostTicket {
 
 /// A host: a book's nodes in locks, with their inboxes, the book and the gauge.
 ///
-/// `C` is the content of a node's lock, and `B` that of the book's lock. Contracts see the host's gauge and the size of
-/// each inbox. The host's seats belong to its gauge, which has a word for each node.
+/// `C` is the content of a node's lock, `B` that of the book's lock, and `L` the latch that closes the host. Contracts
+/// see the host's gauge, the size of each inbox and the latch. The host's seats belong to its gauge, which has a word
+/// for each node.
 ///
 /// Lock order: a node's lock, then the book's. No call holds the locks of two nodes.
 ///
 /// Rules: The book and the threads 19 and 20
 #[derive(Drop)]
-pub struct HostOf<C, B, A: Allocator + Copy + Drop = Global> {
+pub struct HostOf<C, B, A: Allocator + Copy + Drop = Global, L = AtomicLatch> {
     /// The allocator of copies of frames.
     pub(crate) alloc: A,
     /// The cells in their locks, that of processor 1 first.
@@ -71,20 +72,20 @@ pub struct HostOf<C, B, A: Allocator + Copy + Drop = Global> {
     pub(crate) gauge: Gauge<A>,
     /// Notified by each submit, by each stop and by the close.
     pub(crate) event_count: EventCount,
-    /// Whether the host is closed.
-    pub(crate) closed: AtomicBool,
+    /// Set once the host is closed.
+    pub(crate) closed: L,
     /// The book in its lock.
     pub(crate) book: Mutex<B>,
 }
 
-impl<C, B, A: Allocator + Copy + Drop> Model for HostOf<C, B, A> {
+impl<C, B, A: Allocator + Copy + Drop, L> Model for HostOf<C, B, A, L> {
     ghost use Rattle.std.specs.Prelude.{◌≡◌, vec_len, All};
     ghost use Rattle.ring_host.specs.Hosts.{HostView};
     ghost use Rattle.ring_host.specs.Items.{HasRoomFor};
 
-    ghost Value = { HostView };
+    ghost Value = { HostView L };
 
-    ghost view = { λ h. record { gauge = h.gauge; inbox_size = h.inbox_size } };
+    ghost view = { λ h. record { gauge = h.gauge; inbox_size = h.inbox_size; closed = h.closed } };
 
     ghost invariant = { λ h. (vec_len h.cells ≡ h.gauge.words)
         × ((vec_len h.inboxes ≡ h.gauge.words) × All (HasRoomFor h.inbox_size) h.inboxes.items) };
@@ -155,16 +156,6 @@ impl<C, B, A: Allocator + Copy + Drop> HostOf<C, B, A> {
         &self.gauge
     }
 
-    /// Closes the host for good: the threads of `run` end after their current turn, and all rests end.
-    ///
-    /// Turns and submits of other callers still succeed. Takes no lock and does not allocate.
-    ///
-    /// Rules: The book and the threads 28 and 29
-    pub fn close(&self) {
-        self.closed.store(true, Ordering::SeqCst);
-        self.event_count.notify_all();
-    }
-
     /// Takes the node's next task: the timeout that is due, otherwise the first item of the inbox, whose frame is read
     /// into `place`.
     ///
@@ -193,6 +184,21 @@ impl<C, B, A: Allocator + Copy + Drop> HostOf<C, B, A> {
             Some(item) => Ok(Some(Task::decode_task(self.alloc, item, place)?)),
             None => Ok(None),
         }
+    }
+}
+
+impl<C, B, A: Allocator + Copy + Drop, L: Latch> HostOf<C, B, A, L> {
+    /// Closes the host for good: the threads of `run` end after their current turn, and all rests end.
+    ///
+    /// Turns and submits of other callers still succeed. Takes no lock and does not allocate. The contract says that
+    /// this host's latch was set, which only [`Latch::set`](crate::Latch::set) states.
+    ///
+    /// Rules: The book and the threads 28 and 29
+    pub fn close(&self)
+        ensures { L.was_set self.now.closed }
+    {
+        self.closed.set();
+        self.event_count.notify_all();
     }
 }
 

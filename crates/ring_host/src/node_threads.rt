@@ -35,7 +35,7 @@ impl<O: Object, K: BookName<O::Alloc>> HostOf<Cell<O, K>, Book<O, K>, O::Alloc> 
         requires { IsOwn self.now.gauge seat.old }
     {
         for _ in rt.forever() {
-            if self.closed.load(Ordering::SeqCst) {
+            if self.closed.is_set() {
                 return;
             }
             match self.gated_turn(rt, seat, gate) {

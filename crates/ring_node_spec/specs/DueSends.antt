@@ -2,14 +2,12 @@
 -- pending calls.
 -- Rules: The replicated log 2, 7 and 10
 use Rattle.std.specs.Prelude.{ℕ, ◌-◌, max, Bool, not, ◌&&◌, ◌==◌, nat_le, if◌then◌else◌, List, [], ◌∷◌, ◌++◌, length, map, filter, drop, Option, Some, None}
-use Rattle.std.specs.List.{list_any}
 use Rattle.ring_base.specs.Group.{Group, is_primary}
 use Rattle.ring_base.specs.Processors.{nobody}
 use Rattle.ring_base.specs.declared.ring_id.RingId.{RingId}
 use Rattle.ring_core_spec.specs.Payloads.{max_snapshot, Call as OneCall, Payload}
 use Rattle.ring_core_spec.specs.PayloadVariants.{Call, Head, Part, Snap}
 use Rattle.ring_session.specs.Objects.{Sequential}
-use Rattle.ring_session.specs.SessionAnswer.{is_same}
 use Rattle.ring_core_spec.specs.Frames.{Message}
 use Rattle.ring_core_spec.specs.State.{Core}
 use Rattle.ring_core_spec.specs.declared.out.Out.{Out}
@@ -22,6 +20,7 @@ use Rattle.ring_log.specs.EpochHistories.{exchange_after_messages}
 use Rattle.ring_log.specs.KnownLog.{KnownLog, known_log_of, retained_log, known_log_head}
 use Rattle.ring_log.specs.Logs.{Log}
 use Rattle.ring_session.specs.Tickets.{TicketCall}
+use Rattle.ring_session.specs.TicketsState.{contains_call}
 use Rattle.ring_node_spec.specs.EpochHistories.{epochs_after_event}
 use Rattle.ring_node_spec.specs.Nodes.{Node, node_known_log, node_pending, snapshot_kept, is_core_running_in}
 
@@ -65,59 +64,93 @@ due_when_heads_complete me bytes log old new = if has_all_heads new && not (has_
 -- Due when the exchange completes: the pending calls that aren't in the base after the committed places, in the order
 -- of tickets. The places of a restored snapshot are treated as committed
 
--- the ticket's call is one of these calls
-abbrev pub contains_call : {A : Type 0} → List (OneCall A) → TicketCall A → Bool
-contains_call calls t = list_any (is_same t.call) calls
+-- the calls of the tickets whose call isn't in the base; `call_of` is the call of a ticket
+abbrev pub calls_not_in : {T A : Type 0} → (T → OneCall A) → List T → List (OneCall A) → List (Payload A)
+calls_not_in {T} call_of pending base = map (λ (t : T). Call (call_of t)) (filter (λ (t : T). not (contains_call base (call_of t))) pending)
 
--- the calls of the tickets whose call isn't in the base
+-- the calls of a node's tickets whose call isn't in the base
 abbrev pub calls_due : {A : Type 0} → List (TicketCall A) → List (OneCall A) → List (Payload A)
-calls_due pending base = map (λ (t : TicketCall _). Call t.call) (filter (λ (t : TicketCall _). not (contains_call base t)) pending)
+calls_due {A} = calls_not_in (λ (t : TicketCall A). t.call)
 
 -- the places of a base past those committed before or by restoring
 abbrev pub uncommitted_places : {A : Type 0} → ℕ → Log A → List (OneCall A)
 uncommitted_places committed log = drop (max committed log.trimmed - log.trimmed) log.calls
 
--- due at the message that turns the exchange `old` into `new`, if it completes it; `epochs` are the node's after it
-abbrev pub due_when_complete : {A : Type 0} → Node A → List (Epoch A) → Exchange A → Exchange A → List (Payload A)
-due_when_complete n epochs old new =
+-- What the due payloads of a step depend on, besides the epochs: the processor in its group, the rings that run, the pending
+-- calls that a base lacks, the length committed before the step, and the bytes of the snapshot that belongs to a known log
+pub record DueContext (A : Type 0) : Type 0 where
+  pub group : Group
+  pub me : ℕ
+  pub runs : RingId → Bool
+  pub pending_not_in : List (OneCall A) → List (Payload A)
+  pub committed : ℕ
+  pub snapshot : KnownLog A → List ℕ
+
+-- due at the message that turns the exchange `old` into `new`, if it completes it; `epochs` are those after it
+abbrev pub due_when_complete : {A : Type 0} → DueContext A → List (Epoch A) → Exchange A → Exchange A → List (Payload A)
+due_when_complete c epochs old new =
     if is_exchange_complete new && not (is_exchange_complete old)
-    then calls_due (node_pending n) (uncommitted_places (node_known_log n).committed (retained_log (known_log_of n.group epochs)))
+    then c.pending_not_in (uncommitted_places c.committed (retained_log (known_log_of c.group epochs)))
     else []
 
--- The due payloads of outputs. The node is the one before the step, and the core the one after it: payloads are due only in a
+-- due of the owner at the last Head: the snapshot of its known log, and the log
+abbrev pub owner_due_on_heads : {A : Type 0} → DueContext A → KnownLog A → Exchange A → Exchange A → List (Payload A)
+owner_due_on_heads c k old new = due_when_heads_complete c.me (c.snapshot k) (retained_log k) old new
+
+-- due at a message of the newest epoch, given the epochs and the exchanges before and after it
+abbrev pub due_between : {A : Type 0} → DueContext A → List (Epoch A) → List (Epoch A) → Exchange A → Exchange A → List (Payload A)
+due_between c before epochs old new = owner_due_on_heads c (known_log_of c.group before) old new ++ due_when_complete c epochs old new
+
+-- due at a message of this epoch; nothing if its members aren't primary
+abbrev pub due_in_epoch : {A : Type 0} → DueContext A → Epoch A → List (Epoch A) → Message A → List (Epoch A) → List (Payload A)
+due_in_epoch c s before x epochs =
+    if is_primary c.group s.members
+    then due_between c before epochs (exchange_after_messages (exchange_opening s.members) s.heard) (exchange_after_messages (exchange_opening s.members) (s.heard ++ x ∷ []))
+    else []
+
+-- due at a message of the newest epoch; nothing unless its ring runs
+abbrev pub due_on_message : {A : Type 0} → DueContext A → Bool → List (Epoch A) → Message A → List (Epoch A) → List (Payload A)
+due_on_message c runs [] x epochs = []
+due_on_message c runs (s ∷ older) x epochs = if runs then due_in_epoch c s (s ∷ older) x epochs else []
+
+-- due at an output, given the epochs before it
+abbrev pub due_on_output : {A : Type 0} → DueContext A → List (Epoch A) → Out A → List (Payload A)
+due_on_output c epochs (Agreed ring k x) = due_on_message c (c.runs ring) epochs x (epochs_after_event epochs (Agreed ring k x))
+due_on_output c epochs (Regular ring set) = due_at_regular c.group set epochs
+due_on_output c epochs (Send to frame) = []
+due_on_output c epochs (Safe ring upto) = []
+due_on_output c epochs (Trans old new set) = []
+due_on_output c epochs (Rest ring k x) = []
+
+-- due at outputs, in their order
+abbrev pub due_on_outputs : {A : Type 0} → DueContext A → List (Epoch A) → List (Out A) → List (Payload A)
+due_on_outputs c epochs [] = []
+due_on_outputs c epochs (o ∷ outs) = due_on_output c epochs o ++ due_on_outputs c (epochs_after_event epochs o) outs
+
+-- The due payloads of a node. The node is the one before the step, and the core the one after it: payloads are due only in a
 -- ring in which that core is Operational
 
 module _ {O : Type 0} (object : Sequential O) where
-  -- due of the owner at the last Head: the snapshot that it keeps, and its known log
-  abbrev pub owner_due_on_heads : {A : Type 0} → Node A → KnownLog A → Exchange A → Exchange A → List (Payload A)
-  owner_due_on_heads n k old new = due_when_heads_complete n.core.me (snapshot_kept object k) (retained_log k) old new
-
-  -- due at a message of the newest epoch, given the epochs and the exchanges before and after it
-  abbrev pub due_between : {A : Type 0} → Node A → List (Epoch A) → List (Epoch A) → Exchange A → Exchange A → List (Payload A)
-  due_between n before epochs old new = owner_due_on_heads n (known_log_of n.group before) old new ++ due_when_complete n epochs old new
-
-  -- due at a message of this epoch; nothing if its members aren't primary
-  abbrev pub due_in_epoch : {A : Type 0} → Node A → Epoch A → List (Epoch A) → Message A → List (Epoch A) → List (Payload A)
-  due_in_epoch n s before x epochs =
-      if is_primary n.group s.members
-      then due_between n before epochs (exchange_after_messages (exchange_opening s.members) s.heard) (exchange_after_messages (exchange_opening s.members) (s.heard ++ x ∷ []))
-      else []
+  -- the context of a node's step: its pending calls, and the snapshot that it keeps
+  abbrev pub node_context : {A : Type 0} → Node A → Core A → DueContext A
+  node_context n core =
+      record {
+        group = n.group;
+        me = n.core.me;
+        runs = is_core_running_in core;
+        pending_not_in = calls_due (node_pending n);
+        committed = (node_known_log n).committed;
+        snapshot = snapshot_kept object;
+      }
 
   -- due at a message of a node's newest epoch; nothing unless the core is Operational in this ring
   abbrev pub due_at_agreed : {A : Type 0} → Node A → Core A → RingId → List (Epoch A) → Message A → List (Epoch A) → List (Payload A)
-  due_at_agreed n core ring [] x epochs = []
-  due_at_agreed n core ring (s ∷ older) x epochs = if is_core_running_in core ring then due_in_epoch n s (s ∷ older) x epochs else []
+  due_at_agreed n core ring = due_on_message (node_context n core) (is_core_running_in core ring)
 
-  -- due at an output, given the epochs before it
+  -- due at an output of a node, given the epochs before it
   abbrev pub due_at_output : {A : Type 0} → Node A → Core A → List (Epoch A) → Out A → List (Payload A)
-  due_at_output n core epochs (Agreed ring k x) = due_at_agreed n core ring epochs x (epochs_after_event epochs (Agreed ring k x))
-  due_at_output n core epochs (Regular ring set) = due_at_regular n.group set epochs
-  due_at_output n core epochs (Send to frame) = []
-  due_at_output n core epochs (Safe ring upto) = []
-  due_at_output n core epochs (Trans old new set) = []
-  due_at_output n core epochs (Rest ring k x) = []
+  due_at_output n core = due_on_output (node_context n core)
 
-  -- due at outputs, in their order
+  -- due at outputs of a node, in their order
   abbrev pub due_of_outputs : {A : Type 0} → Node A → Core A → List (Epoch A) → List (Out A) → List (Payload A)
-  due_of_outputs n core epochs [] = []
-  due_of_outputs n core epochs (o ∷ outs) = due_at_output n core epochs o ++ due_of_outputs n core (epochs_after_event epochs o) outs
+  due_of_outputs n core = due_on_outputs (node_context n core)

@@ -33,7 +33,7 @@ use Rattle.ring_log_proof.proofs.CompleteExchanges.{complete_exchange-from}
 use Rattle.ring_session.specs.Tickets.{TicketCall}
 use Rattle.ring_node_spec.specs.Nodes.{Node, node_known_log, node_pending, snapshot_kept, is_core_running_in}
 use Rattle.ring_node_spec.specs.DueSends.{has_all_heads, parts_due, snaps_due, is_snapshot_kept, places_due, owner_due, calls_due, uncommitted_places}
-use Rattle.ring_node_spec.specs.DueSends.{due_when_complete, owner_due_on_heads, due_between, due_in_epoch, due_at_agreed}
+use Rattle.ring_node_spec.specs.DueSends.{node_context, due_when_complete, owner_due_on_heads, due_between, due_in_epoch, due_at_agreed}
 use Rattle.ring_log_proof.specs.Discipline.{FollowsHead}
 
 -- The known log of a node
@@ -189,21 +189,21 @@ both_due P own xs ys h k =
 calls_follow : {A : Type 0} → (own : KnownLog A) (calls : List (OneCall A)) (pending : List (TicketCall A)) → Each (FollowsHead own) (calls_due pending calls)
 calls_follow own calls pending = any_each (FollowsHead own) _ _ (λ t. tt)
 
-whole_follows : {A : Type 0} → (own : KnownLog A) (n : Node A) (epochs : List (Epoch A)) (old new : Exchange A)
-    → Each (FollowsHead own) (due_when_complete n epochs old new)
-whole_follows own n epochs old new =
-    let places = uncommitted_places (node_known_log n).committed (retained_log (known_log_of n.group epochs)) in
-    cond_both _ (calls_due (node_pending n) places) [] (Each (FollowsHead own)) (λ e. calls_follow own places (node_pending n)) (λ e. tt)
-
 -- the ring runs and is primary
 pub record RunsPrimary {A : Type 0} (group : Group) (core : Core A) (ring : RingId) (members : ℕ) : Type 0 where
   pub runs_here : is_core_running_in core ring ≡ true
   pub primary : is_primary group members ≡ true
 
 module _ {O A : Type 0} (object : Sequential O) where
-  stated_follows : (n : Node A) (s : Epoch A) (older : List (Epoch A)) (new : Exchange A)
-      → Each (FollowsHead (known_log_of n.group older)) (owner_due_on_heads object n (known_log_of n.group (s ∷ older)) (exchange_after_messages (exchange_opening s.members) s.heard) new)
-  stated_follows n s older new =
+  whole_follows : (own : KnownLog A) (n : Node A) (core : Core A) (epochs : List (Epoch A)) (old new : Exchange A)
+      → Each (FollowsHead own) (due_when_complete (node_context object n core) epochs old new)
+  whole_follows own n core epochs old new =
+      let places = uncommitted_places (node_known_log n).committed (retained_log (known_log_of n.group epochs)) in
+      cond_both _ (calls_due (node_pending n) places) [] (Each (FollowsHead own)) (λ e. calls_follow own places (node_pending n)) (λ e. tt)
+
+  stated_follows : (n : Node A) (core : Core A) (s : Epoch A) (older : List (Epoch A)) (new : Exchange A)
+      → Each (FollowsHead (known_log_of n.group older)) (owner_due_on_heads (node_context object n core) (known_log_of n.group (s ∷ older)) (exchange_after_messages (exchange_opening s.members) s.heard) new)
+  stated_follows n core s older new =
       let old = exchange_after_messages (exchange_opening s.members) s.heard in
       let k = known_log_of n.group (s ∷ older) in
       let before = known_log_of n.group older in
@@ -223,11 +223,12 @@ module _ {O A : Type 0} (object : Sequential O) where
       let own = known_log_of n.group older in
       let old = exchange_after_messages (exchange_opening s.members) s.heard in
       let new = exchange_after_messages (exchange_opening s.members) (s.heard ++ x ∷ []) in
-      let told = owner_due_on_heads object n (known_log_of n.group (s ∷ older)) old new in
-      cond_both (is_core_running_in core ring) (due_in_epoch object n s (s ∷ older) x epochs) [] (IsDue P own)
-      (λ r. cond_both (is_primary n.group s.members) (due_between object n (s ∷ older) epochs old new) [] (IsDue P own)
+      let c = node_context object n core in
+      let told = owner_due_on_heads c (known_log_of n.group (s ∷ older)) old new in
+      cond_both (is_core_running_in core ring) (due_in_epoch c s (s ∷ older) x epochs) [] (IsDue P own)
+      (λ r. cond_both (is_primary n.group s.members) (due_between c (s ∷ older) epochs old new) [] (IsDue P own)
       (λ p. record {
-        follows = each-append (FollowsHead own) told (due_when_complete n epochs old new) (stated_follows n s older new) (whole_follows own n epochs old new);
+        follows = each-append (FollowsHead own) told (due_when_complete c epochs old new) (stated_follows n core s older new) (whole_follows own n core epochs old new);
         needs = inr (record { runs_here = r; primary = p });
       })
       (λ p. none_due P own))

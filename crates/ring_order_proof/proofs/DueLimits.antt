@@ -36,10 +36,11 @@ use Rattle.ring_log_proof.specs.RingFacts.{HasEpoch}
 use Rattle.ring_log_proof.specs.EpochEvents.{Agreed as AgreedEvent, Safe as SafeEvent, Regular as RegularEvent, IsRaised}
 use Rattle.ring_log_proof.proofs.RunEpochs.{newest-dropping, event-dropping}
 use Rattle.ring_session.specs.Tickets.{TicketCall, unanswered_tickets}
+use Rattle.ring_session.specs.TicketsState.{contains_call}
 use Rattle.ring_node_spec.specs.EpochHistories.{epochs_after}
 use Rattle.ring_node_spec.specs.Nodes.{Node, node_known_log, node_pending, snapshot_kept, is_core_running_in}
 use Rattle.ring_node_spec.specs.DueSends.{due_at_regular, has_all_heads, parts_due, snaps_due, is_snapshot_kept, places_due, owner_due, due_when_heads_complete}
-use Rattle.ring_node_spec.specs.DueSends.{contains_call, calls_due, uncommitted_places, due_when_complete, owner_due_on_heads, due_between, due_in_epoch, due_at_agreed, due_of_outputs}
+use Rattle.ring_node_spec.specs.DueSends.{DueContext, node_context, calls_due, uncommitted_places, due_when_complete, owner_due_on_heads, due_between, due_in_epoch, due_at_agreed, due_of_outputs}
 use Rattle.ring_order_proof.specs.NodeFits.{HeardFits, EpochFits, EpochsFit, IsMarkedUpTo, TicketsFit}
 use Rattle.ring_order_proof.proofs.LogLimits.{ExchangeFits, stay_exchange, PlacesFit, WantedFits, wanted_fits, kept_fits, head_fits, parts_fit, pieces_fit}
 use Rattle.ring_order_proof.proofs.OutputLimits.{Tells}
@@ -246,18 +247,21 @@ stated_due_fit me bytes k old new h x =
 calls_due_fit : {A : Type 0} → (tickets : List (TicketCall A)) (done calls : List (OneCall A)) → TicketsFit tickets →
     Each PayloadFits (calls_due (unanswered_tickets done tickets) calls)
 calls_due_fit {A} tickets done calls h =
-    let waiting = filter (λ (t : TicketCall A). not (contains_call calls t)) (unanswered_tickets done tickets) in
+    let waiting = filter (λ (t : TicketCall A). not (contains_call calls t.call)) (unanswered_tickets done tickets) in
     any_each PayloadFits (λ (t : TicketCall A). CallFits t.call) (λ (t : TicketCall A). Call t.call) waiting (λ t f. f)
-    (each-filter (λ (t : TicketCall A). CallFits t.call) (λ (t : TicketCall A). not (contains_call calls t)) (unanswered_tickets done tickets)
+    (each-filter (λ (t : TicketCall A). CallFits t.call) (λ (t : TicketCall A). not (contains_call calls t.call)) (unanswered_tickets done tickets)
     (each-filter (λ (t : TicketCall A). CallFits t.call) _ tickets h))
 
 module _ {O A : Type 0} (object : Sequential O) (n : Node A) (tickets : TicketsFit n.tickets) (core : Core A) where
+  abbrev context : DueContext A
+  context = node_context object n core
+
   due_between_fit : (before epochs : List (Epoch A)) (old new : Exchange A) → Each EpochFits before → ExchangeFits new →
-      Each PayloadFits (due_between object n before epochs old new)
+      Each PayloadFits (due_between context before epochs old new)
   due_between_fit before epochs old new h x =
       let k = known_log_of n.group before in
       let past = uncommitted_places (node_known_log n).committed (retained_log (known_log_of n.group epochs)) in
-      each-append PayloadFits (owner_due_on_heads object n k old new) (due_when_complete n epochs old new)
+      each-append PayloadFits (owner_due_on_heads context k old new) (due_when_complete context epochs old new)
       (stated_due_fit n.core.me (snapshot_kept object k) k old new (kept_fits n.group before h).calls x)
       (cond_both (is_exchange_complete new && not (is_exchange_complete old)) (calls_due (node_pending n) past) [] (Each PayloadFits)
       (λ e. calls_due_fit n.tickets n.done past tickets) (λ e. tt))
@@ -271,8 +275,8 @@ module _ {O A : Type 0} (object : Sequential O) (n : Node A) (tickets : TicketsF
       let fits : ExchangeFits new =
       stay_exchange s.members s.ring.seq (s.heard ++ x ∷ [])
       (each-push (HeardFits s.ring.seq) s.heard x (h.0).heard (subst (λ q. HeardFits q x) (sym h.1) f)) in
-      cond_both (is_core_running_in core ring) (due_in_epoch object n s (s ∷ older) x after) [] (Each PayloadFits)
-      (λ r. cond_both (is_primary n.group s.members) (due_between object n (s ∷ older) after old new) [] (Each PayloadFits)
+      cond_both (is_core_running_in core ring) (due_in_epoch context s (s ∷ older) x after) [] (Each PayloadFits)
+      (λ r. cond_both (is_primary n.group s.members) (due_between context (s ∷ older) after old new) [] (Each PayloadFits)
       (λ p. due_between_fit (s ∷ older) after old new (h.0, h.2) fits) (λ p. tt)) (λ r. tt)
 
   regular_due_fit : (set : ℕ) (epochs : List (Epoch A)) → Each EpochFits epochs → is_known_log_sound n.group epochs ≡ true → DropsOnlyCommitted n.group epochs →

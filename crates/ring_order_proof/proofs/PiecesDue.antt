@@ -40,8 +40,9 @@ use Rattle.ring_log.specs.Logs.{Log}
 use Rattle.ring_log.specs.KnownLog.{KnownLog, known_log_after_epoch, dropped_by, known_log_of, retained_log, known_log_head}
 use Rattle.ring_log_proof.proofs.CompleteExchanges.{complete_exchange-front}
 use Rattle.ring_session.specs.Tickets.{TicketCall}
+use Rattle.ring_session.specs.TicketsState.{contains_call}
 use Rattle.ring_node_spec.specs.DueSends.{has_all_heads, parts_due, snaps_due, is_snapshot_kept, places_due, owner_due, calls_due, uncommitted_places, due_when_complete}
-use Rattle.ring_node_spec.specs.DueSends.{contains_call, owner_due_on_heads, due_at_regular, due_between, due_in_epoch, due_at_output, due_of_outputs}
+use Rattle.ring_node_spec.specs.DueSends.{DueContext, node_context, owner_due_on_heads, due_at_regular, due_between, due_in_epoch, due_at_output, due_of_outputs}
 use Rattle.ring_node_spec.specs.EpochHistories.{epochs_after_event, epochs_after}
 use Rattle.ring_node_spec.proofs.EpochsAfterOutputs.{through-append}
 use Rattle.ring_node_spec.specs.Nodes.{Node, node_known_log, node_pending, snapshot_kept, is_closed, is_core_running_in}
@@ -119,7 +120,7 @@ module _ (A : Type 0) (bytes : List ℕ) where
 module _ {A : Type 0} (bytes : List ℕ) where
   calls-pieces : (pending : List (TicketCall A)) (calls : List (OneCall A)) → Each (IsPieceOf bytes) (calls_due pending calls)
   calls-pieces pending calls =
-      each-mapped (IsPieceOf bytes) (λ (t : TicketCall A). Call t.call) (λ t. tt) (filter (λ (t : TicketCall A). not (contains_call calls t)) pending)
+      each-mapped (IsPieceOf bytes) (λ (t : TicketCall A). Call t.call) (λ t. tt) (filter (λ (t : TicketCall A). not (contains_call calls t.call)) pending)
 
   parts-pieces : (log : Log A) (w : Wanted) → Each (IsPieceOf bytes) (parts_due log w)
   parts-pieces log w = each-mapped (IsPieceOf bytes) (λ (part : OnePart A). Part part) (λ part. tt) (parts_between log.trimmed log.calls w.from w.to)
@@ -159,7 +160,10 @@ module _ {O A : Type 0} (object : Sequential O) (n : Node A) (core : Core A) whe
   abbrev pub P : List (Epoch A) → Payload A → Type 0
   P older = IsPieceOf (snapshot_kept object (known_log_of n.group older))
 
-  whole-pieces : (older epochs : List (Epoch A)) (old new : Exchange A) → Each (P older) (due_when_complete n epochs old new)
+  abbrev context : DueContext A
+  context = node_context object n core
+
+  whole-pieces : (older epochs : List (Epoch A)) (old new : Exchange A) → Each (P older) (due_when_complete context epochs old new)
   whole-pieces older epochs old new =
       cond_both (is_exchange_complete new && not (is_exchange_complete old))
       (calls_due (node_pending n) (uncommitted_places (node_known_log n).committed (retained_log (known_log_of n.group epochs)))) [] (Each (P older))
@@ -167,7 +171,7 @@ module _ {O A : Type 0} (object : Sequential O) (n : Node A) (core : Core A) whe
       (uncommitted_places (node_known_log n).committed (retained_log (known_log_of n.group epochs)))) (λ f. tt)
 
   received_head-pieces : (s : Epoch A) (older : List (Epoch A)) (new : Exchange A) → is_primary n.group s.members ≡ true → IsFrozen n.group (s ∷ older)
-      → Each (P older) (owner_due_on_heads object n (known_log_of n.group (s ∷ older)) (exchange_after_messages (exchange_opening s.members) s.heard) new)
+      → Each (P older) (owner_due_on_heads context (known_log_of n.group (s ∷ older)) (exchange_after_messages (exchange_opening s.members) s.heard) new)
   received_head-pieces s older new primary frozen =
       let k = known_log_of n.group (s ∷ older) in
       let old = exchange_after_messages (exchange_opening s.members) s.heard in
@@ -187,9 +191,9 @@ module _ {O A : Type 0} (object : Sequential O) (n : Node A) (core : Core A) whe
       let epochs = epochs_with_message x (s ∷ older) in
       let old = exchange_after_messages (exchange_opening s.members) s.heard in
       let new = exchange_after_messages (exchange_opening s.members) (s.heard ++ x ∷ []) in
-      cond_both (is_core_running_in core ring) (due_in_epoch object n s (s ∷ older) x epochs) [] (Each (P older))
-      (λ r. cond_both (is_primary n.group s.members) (due_between object n (s ∷ older) epochs old new) [] (Each (P older))
-      (λ p. each-append (P older) (owner_due_on_heads object n (known_log_of n.group (s ∷ older)) old new) (due_when_complete n epochs old new)
+      cond_both (is_core_running_in core ring) (due_in_epoch context s (s ∷ older) x epochs) [] (Each (P older))
+      (λ r. cond_both (is_primary n.group s.members) (due_between context (s ∷ older) epochs old new) [] (Each (P older))
+      (λ p. each-append (P older) (owner_due_on_heads context (known_log_of n.group (s ∷ older)) old new) (due_when_complete context epochs old new)
       (received_head-pieces s older new p frozen) (whole-pieces older epochs old new))
       (λ p. tt))
       (λ r. tt)
@@ -243,7 +247,7 @@ module _ {O A : Type 0} (object : Sequential O) (n : Node A) (core : Core A) whe
   silent-sent_payloads (Rest ring number x) k = tt
 
   silent-due : (s : Epoch A) (older : List (Epoch A)) (o : Out A) → IsSilent o → due_at_output object n core (s ∷ older) o ≡ []
-  silent-due s older (AgreedOut ring number x) k = cond-false (is_core_running_in core ring) (due_in_epoch object n s (s ∷ older) x (epochs_with_message x (s ∷ older))) [] k
+  silent-due s older (AgreedOut ring number x) k = cond-false (is_core_running_in core ring) (due_in_epoch context s (s ∷ older) x (epochs_with_message x (s ∷ older))) [] k
   silent-due s older (Regular ring members) k = absurd k
   silent-due s older (SafeOut ring upto) k = refl
   silent-due s older (SendOut to frame) k = refl

@@ -28,7 +28,7 @@ use Rattle.ring_session.specs.Tickets.{TicketCall, unanswered_tickets}
 use Rattle.ring_node_spec.specs.EpochHistories.{epochs_after_event, epochs_after}
 use Rattle.ring_node_spec.specs.Nodes.{Node, node_known_log, node_pending, node_stopped, snapshot_kept, is_closed, is_restored, is_core_running_in, runs_adopted}
 use Rattle.ring_node_spec.specs.DueSends.{has_all_heads, uncommitted_places, parts_due, snaps_due, is_snapshot_kept, places_due, owner_due, due_when_heads_complete, calls_due}
-use Rattle.ring_node_spec.specs.DueSends.{due_when_complete, due_between, due_in_epoch, due_at_agreed, due_at_output, due_of_outputs}
+use Rattle.ring_node_spec.specs.DueSends.{node_context, due_when_complete, due_between, due_in_epoch, due_at_agreed, due_at_output, due_of_outputs}
 use Rattle.ring_node_spec.specs.declared.input.Input.{Input}
 use Rattle.ring_node_spec.specs.declared.input.Input.TheVariants.{Frame, Noise, Timeout, Stop}
 use Rattle.ring_node_spec.specs.Stepping.{NodeStepResult, with_dropped, newly_committed, drops, did, settled, node_after_outputs, after_core, node_step, due_by_submit, node_after_submit}
@@ -93,13 +93,13 @@ module _ {A : Type 0} (Known : OneCall A → Type 0) where
   stopped-known n k = record { tickets = k.tickets; sent = k.sent }
 
   module _ {O : Type 0} (object : Sequential O) where
-    between-known : (n : Node A) (before epochs : List (Epoch A)) (old new : Exchange A) → Each (λ (t : TicketCall A). Known t.call) n.tickets
-        → AreKnown (due_between object n before epochs old new)
-    between-known n before epochs old new h =
+    between-known : (n : Node A) (core : Core A) (before epochs : List (Epoch A)) (old new : Exchange A) → Each (λ (t : TicketCall A). Known t.call) n.tickets
+        → AreKnown (due_between (node_context object n core) before epochs old new)
+    between-known n core before epochs old new h =
         let k = known_log_of n.group before in
         let bytes = snapshot_kept object k in
         let past = uncommitted_places (node_known_log n).committed (retained_log (known_log_of n.group epochs)) in
-        each-append (IsKnownCall Known) (due_when_heads_complete n.core.me bytes (retained_log k) old new) (due_when_complete n epochs old new)
+        each-append (IsKnownCall Known) (due_when_heads_complete n.core.me bytes (retained_log k) old new) (due_when_complete (node_context object n core) epochs old new)
         (none-known (has_all_heads new && not (has_all_heads old)) (owner_due n.core.me bytes (retained_log k) (wanted new))
         (owner-known n.core.me bytes (retained_log k) (wanted new)))
         (none-known (is_exchange_complete new && not (is_exchange_complete old)) (calls_due (node_pending n) past) (calls-known n.tickets n.done past h))
@@ -111,8 +111,9 @@ module _ {A : Type 0} (Known : OneCall A → Type 0) where
     agreed-known n core ring (s ∷ older) x epochs h =
         let old = exchange_after_messages (exchange_opening s.members) s.heard in
         let new = exchange_after_messages (exchange_opening s.members) (s.heard ++ x ∷ []) in
-        none-known (is_core_running_in core ring) (due_in_epoch object n s (s ∷ older) x epochs)
-        (none-known (is_primary n.group s.members) (due_between object n (s ∷ older) epochs old new) (between-known n (s ∷ older) epochs old new h))
+        let c = node_context object n core in
+        none-known (is_core_running_in core ring) (due_in_epoch c s (s ∷ older) x epochs)
+        (none-known (is_primary n.group s.members) (due_between c (s ∷ older) epochs old new) (between-known n core (s ∷ older) epochs old new h))
 
     due-known : (n : Node A) (core : Core A) (epochs : List (Epoch A)) (o : Out A) → Each (λ (t : TicketCall A). Known t.call) n.tickets
         → AreKnown (due_at_output object n core epochs o)

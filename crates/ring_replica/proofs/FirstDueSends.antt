@@ -18,8 +18,8 @@ use Rattle.ring_log.specs.Logs.{Log}
 use Rattle.ring_log.specs.Epochs.{Epoch, epochs_with_message}
 use Rattle.ring_log.specs.EpochHistories.{exchange_after_messages}
 use Rattle.ring_log.specs.KnownLog.{KnownLog, known_log_of, retained_log}
-use Rattle.ring_replication.specs.NodeSpec.{has_all_heads, parts_due, snaps_due, is_snapshot_kept, places_due, owner_due, due_when_heads_complete, epochs_after_event}
-use Rattle.ring_replication.specs.Replications.{StepContext, bytes_at, is_running, owner_due_sends, due_sends_when_complete, due_sends_on_message, due_sends_at, due_sends_by}
+use Rattle.ring_replication.specs.NodeSpec.{has_all_heads, parts_due, snaps_due, is_snapshot_kept, places_due, owner_due, due_when_heads_complete, due_when_complete, owner_due_on_heads, epochs_after_event}
+use Rattle.ring_replication.specs.Replications.{StepContext, bytes_at, is_running, due_context, due_sends_on_message, due_sends_at, due_sends_by}
 
 -- a wanted snapshot stands for at least one place
 some-places : (owner : ℕ) (head : OneHead) (least at : ℕ) → (wanted_from_owner owner head least).snapshot ≡ Some at → 0 < at
@@ -70,10 +70,10 @@ module _ {A : Type 0} (m : StepContext A) (bytes : List ℕ) (none : m.trimmed �
   abbrev other : StepContext A
   other = record m { snapshot = bytes }
 
-  owner-due_sends : (k : KnownLog A) (old new : Exchange A) → owner_due_sends other k old new ≡ owner_due_sends m k old new
+  owner-due_sends : (k : KnownLog A) (old new : Exchange A) → owner_due_on_heads (due_context other) k old new ≡ owner_due_on_heads (due_context m) k old new
   owner-due_sends k old new = by k.trimmed refl
     where
-      by : (n : ℕ) → k.trimmed ≡ n → owner_due_sends other k old new ≡ owner_due_sends m k old new
+      by : (n : ℕ) → k.trimmed ≡ n → owner_due_on_heads (due_context other) k old new ≡ owner_due_on_heads (due_context m) k old new
       by zero e = received_head-same m.me (bytes_at other k) (bytes_at m k) (retained_log k) old new e
       by (suc n) e =
           let some : nat_lt m.trimmed k.trimmed ≡ true = lt-ltb m.trimmed k.trimmed (omega (arith, none, e)) in
@@ -86,7 +86,7 @@ module _ {A : Type 0} (m : StepContext A) (bytes : List ℕ) (none : m.trimmed �
   heard-first runs (s ∷ older) x after =
       let old : Exchange A = exchange_after_messages (exchange_opening s.members) s.heard in
       let new : Exchange A = exchange_after_messages (exchange_opening s.members) (s.heard ++ x ∷ []) in
-      ap (λ l. if runs then (if is_primary m.group s.members then l ++ due_sends_when_complete m after old new else []) else [])
+      ap (λ l. if runs then (if is_primary m.group s.members then l ++ due_when_complete (due_context m) after old new else []) else [])
       (owner-due_sends (known_log_of m.group (s ∷ older)) old new)
 
   at-first : (epochs : List (Epoch A)) (o : Out A) → due_sends_at other epochs o ≡ due_sends_at m epochs o

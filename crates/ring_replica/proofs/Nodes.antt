@@ -28,10 +28,10 @@ use Rattle.ring_session.specs.declared.ticket_answer.TicketAnswer.{TicketAnswer}
 use Rattle.ring_session.specs.declared.pending_ticket.PendingTicket.{PendingTicket}
 use Rattle.ring_session.specs.TicketsState.{pending_from, contains_call}
 use Rattle.ring_replication.specs.NodeSpec.{epochs_after_event, epochs_after, Node, node_known_log, node_pending, is_stopped, is_closed, is_restored, snapshot_kept}
-use Rattle.ring_replication.specs.NodeSpec.{is_core_running_in, is_running_ring, calls_due, due_when_heads_complete, uncommitted_places, due_when_complete, owner_due_on_heads, due_in_epoch}
+use Rattle.ring_replication.specs.NodeSpec.{DueContext, node_context, is_core_running_in, is_running_ring, calls_due, due_when_heads_complete, uncommitted_places, due_when_complete, owner_due_on_heads, due_in_epoch}
 use Rattle.ring_replication.specs.NodeSpec.{due_at_agreed, due_at_output, due_of_outputs, handed_over, node_after_outputs, NodeStepResult, send_of, drops, newly_committed, table_since}
 use Rattle.ring_replication.specs.NodeSpec.{settled, after_core, node_after_submit, submit_fault}
-use Rattle.ring_replication.specs.Replications.{StepContext, bytes_at, is_running, calls_to_resend, due_sends_when_complete, due_sends_in_epoch, due_sends_on_message, due_sends_at, due_sends_by}
+use Rattle.ring_replication.specs.Replications.{StepContext, bytes_at, is_running, calls_to_resend, due_context, due_sends_on_message, due_sends_at, due_sends_by}
 use Rattle.ring_replication.specs.Replications.{handed_if, rises_at, rises, HasSoundEpochs}
 use Rattle.ring_replica.specs.Replicas.{replica_of, running_of, moment_of, is_running_some, submit_refusal, replica_with_ticket, replica_settled}
 use Rattle.ring_replica.specs.Replicas.{replica_step, node_of_core_and_replica, node_with_ticket}
@@ -76,29 +76,35 @@ module _ {O A : Type 0} (object : Sequential O) (n : Node A) (core : Core A) whe
   abbrev m : StepContext A
   m = moment_of object (running_of core) (replica_of n)
 
+  abbrev of_node : DueContext A
+  of_node = node_context object n core
+
+  abbrev of_step : DueContext A
+  of_step = due_context m
+
   calls-due : (places : List (OneCall A)) → calls_due (node_pending n) places ≡ calls_to_resend m.pending places
   calls-due places = calls-from n.done places 0 n.tickets
 
-  whole-due : (epochs : List (Epoch A)) (old new : Exchange A) → due_when_complete n epochs old new ≡ due_sends_when_complete m epochs old new
+  whole-due : (epochs : List (Epoch A)) (old new : Exchange A) → due_when_complete of_node epochs old new ≡ due_when_complete of_step epochs old new
   whole-due epochs old new =
       ap (λ l. if is_exchange_complete new && not (is_exchange_complete old) then l else []) (calls-due (uncommitted_places (node_known_log n).committed (retained_log (known_log_of n.group epochs))))
 
   epoch-due : (s : Epoch A) (before : List (Epoch A)) (x : Message A) (epochs : List (Epoch A))
       → snapshot_kept object (known_log_of n.group before) ≡ bytes_at m (known_log_of n.group before)
-      → due_in_epoch object n s before x epochs ≡ due_sends_in_epoch m s before x epochs
+      → due_in_epoch of_node s before x epochs ≡ due_in_epoch of_step s before x epochs
   epoch-due s before x epochs same =
       let old = exchange_after_messages (exchange_opening s.members) s.heard in
       let new = exchange_after_messages (exchange_opening s.members) (s.heard ++ x ∷ []) in
       let k = known_log_of n.group before in
-      ap (λ l. if is_primary n.group s.members then owner_due_on_heads object n k old new ++ l else []) (whole-due epochs old new)
-      ∙ ap (λ bs. if is_primary n.group s.members then due_when_heads_complete n.core.me bs (retained_log k) old new ++ due_sends_when_complete m epochs old new else []) same
+      ap (λ l. if is_primary n.group s.members then owner_due_on_heads of_node k old new ++ l else []) (whole-due epochs old new)
+      ∙ ap (λ bs. if is_primary n.group s.members then due_when_heads_complete n.core.me bs (retained_log k) old new ++ due_when_complete of_step epochs old new else []) same
 
   agreed-due : (ring : RingId) (epochs : List (Epoch A)) (x : Message A) (after : List (Epoch A))
       → snapshot_kept object (known_log_of n.group epochs) ≡ bytes_at m (known_log_of n.group epochs)
       → due_at_agreed object n core ring epochs x after ≡ due_sends_on_message m (is_running (running_of core) ring) epochs x after
   agreed-due ring [] x after same = refl
   agreed-due ring (s ∷ older) x after same =
-      ap (λ b. if b then due_in_epoch object n s (s ∷ older) x after else []) (is_core_running_in-is core ring)
+      ap (λ b. if b then due_in_epoch of_node s (s ∷ older) x after else []) (is_core_running_in-is core ring)
       ∙ ap (λ l. if is_running (running_of core) ring then l else []) (epoch-due s (s ∷ older) x after same)
 
   out-due : (epochs : List (Epoch A)) (o : Out A) → snapshot_kept object (known_log_of n.group epochs) ≡ bytes_at m (known_log_of n.group epochs)

@@ -37,10 +37,10 @@ use Rattle.ring_session.specs.declared.pending_ticket.PendingTicket.{PendingTick
 use Rattle.ring_replication.specs.declared.delivery_context.DeliveryContext.{DeliveryContext}
 use Rattle.ring_replication.specs.declared.exchange_stage.ExchangeStage.{ExchangeStage}
 use Rattle.ring_replication.specs.declared.exchange_stage.ExchangeStage.TheVariants.{NotPrimary, Exchanging, Adopted}
-use Rattle.ring_node_spec.specs.DueSends.{has_all_heads, owner_due, due_when_heads_complete, uncommitted_places}
+use Rattle.ring_node_spec.specs.DueSends.{has_all_heads, owner_due, due_when_heads_complete, uncommitted_places, due_when_complete, owner_due_on_heads}
 use Rattle.ring_replication.specs.Replications.{MayRestore}
 use Rattle.ring_replication.specs.Replications.{HeldLog, held_log_restored, held_log_adopted, stage_by_exchange, stage_in, reached_places, watermark_of, watermark_at, calls_to_resend, owner_asked, if_runs}
-use Rattle.ring_replication.specs.Replications.{MessageEffect, base_effect, message_effect, StepContext, bytes_at, owner_due_sends, due_sends_when_complete, due_sends_on_message}
+use Rattle.ring_replication.specs.Replications.{MessageEffect, base_effect, message_effect, StepContext, bytes_at, due_context, due_sends_on_message}
 use Rattle.ring_replication.proofs.Replications.{none-front, kept_base, log_with, kept-log, length-with}
 
 -- ---- an exchange that isn't complete
@@ -624,7 +624,7 @@ module _ {A : Type 0} (group : Group) (s : Epoch A) (older : List (Epoch A)) (x 
       }
 
   -- the owner's snapshot and log are the stored ones
-  owner-told : Kept_before → (new : Exchange A) → owner_due_sends this_moment (known_log_of group (s ∷ older)) before_it new
+  owner-told : Kept_before → (new : Exchange A) → owner_due_on_heads (due_context this_moment) (known_log_of group (s ∷ older)) before_it new
       ≡ due_when_heads_complete delivery_context.me h.snapshot h.log before_it new
   owner-told k new =
       let now = known_log_of group (s ∷ older) in
@@ -645,7 +645,7 @@ module _ {A : Type 0} (group : Group) (s : Epoch A) (older : List (Epoch A)) (x 
   due-is k p =
       let left : Exchange A → List (OneCall A) → List (Payload A) = λ new l. if is_exchange_complete new && not (is_exchange_complete before_it) then calls_to_resend pending l else [] in
       let past_places = uncommitted_places delivery_context.committed (retained_log (known_log_of group (with_message s x ∷ older))) in
-      let made : Exchange A → List (Payload A) = λ new. owner_due_sends this_moment (known_log_of group (s ∷ older)) before_it new ++ left new past_places in
+      let made : Exchange A → List (Payload A) = λ new. owner_due_on_heads (due_context this_moment) (known_log_of group (s ∷ older)) before_it new ++ left new past_places in
       let new = exchange_after_message before_it x in
       sym (due-by delivery_context.runs (is_primary group s.members) (made (exchange_after_messages (exchange_opening s.members) text)) p)
       ∙ ap (λ e. if delivery_context.runs then made e else []) (exchange_after_messages-push (exchange_opening s.members) s.heard x)
@@ -726,8 +726,8 @@ module _ {A : Type 0} (group : Group) (s : Epoch A) (older : List (Epoch A)) (x 
   epochs_with_message-by false o p e k ring =
       epochs_with_message-none group s older x h NotPrimary [] due (before None (complete_exchange-apart s.heard p) k) (complete_exchange-apart text p)
       (sym (cond-false (is_primary group s.members) (stage_by_exchange (complete_exchange_from (exchange_opening s.members) text) (exchange_after_messages (exchange_opening s.members) text)) NotPrimary p)) refl
-      (no-due delivery_context.runs (is_primary group s.members) (owner_due_sends this_moment (known_log_of group (s ∷ older)) before_it (exchange_after_messages (exchange_opening s.members) text)
-      ++ due_sends_when_complete this_moment (with_message s x ∷ older) before_it (exchange_after_messages (exchange_opening s.members) text)) p)
+      (no-due delivery_context.runs (is_primary group s.members) (owner_due_on_heads (due_context this_moment) (known_log_of group (s ∷ older)) before_it (exchange_after_messages (exchange_opening s.members) text)
+      ++ due_when_complete (due_context this_moment) (with_message s x ∷ older) before_it (exchange_after_messages (exchange_opening s.members) text)) p)
   epochs_with_message-by true None p e k ring = epochs_with_message-open (is_exchange_complete (exchange_after_message before_it x)) refl p e k ring
   epochs_with_message-by true (Some w) p e k ring =
       let old = before_it in

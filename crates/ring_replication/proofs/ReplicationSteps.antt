@@ -24,14 +24,14 @@ use Rattle.ring_log_proof.proofs.CompleteExchanges.{complete_exchange-front, upt
 use Rattle.ring_log_proof.proofs.KnownGrows.{known-longer_list}
 use Rattle.ring_log_proof.proofs.KnownLogs.{known-epoch}
 use Rattle.ring_session.specs.declared.pending_ticket.PendingTicket.{PendingTicket}
-use Rattle.ring_node_spec.specs.DueSends.{due_when_heads_complete}
+use Rattle.ring_node_spec.specs.DueSends.{due_when_heads_complete, due_when_complete}
 use Rattle.ring_node_spec.specs.EpochHistories.{epochs_after_event, epochs_after}
 use Rattle.ring_node_spec.proofs.EpochsAfterOutputs.{through-append}
 use Rattle.ring_node_spec.specs.Nodes.{is_closed}
 use Rattle.ring_replication.specs.declared.log_watermark.LogWatermark.{LogWatermark}
 use Rattle.ring_replication.specs.declared.delivery_context.DeliveryContext.{DeliveryContext}
 use Rattle.ring_replication.specs.declared.exchange_stage.ExchangeStage.{ExchangeStage}
-use Rattle.ring_replication.specs.Replications.{stage_in, watermark_of, watermark_at, watermarks_from, messages_after, watermarks_above, covered_places, message_effect, StepContext, bytes_at, due_sends_when_complete}
+use Rattle.ring_replication.specs.Replications.{stage_in, watermark_of, watermark_at, watermarks_from, messages_after, watermarks_above, covered_places, message_effect, StepContext, bytes_at, due_context}
 use Rattle.ring_replication.specs.Replications.{due_sends_on_message, due_sends_at, due_sends_by, is_risen, rises_at, rises, is_running, HeldLog, held_log_trimmed, IsRestoredSnapshotHeld}
 use Rattle.ring_replication.specs.Replications.{MayRestore, IsHeldLogContinued, IsReplicationKept}
 use Rattle.ring_replication.proofs.Replications.{complete_exchange-nothing, covers-upto, upto-messages_after, watermarks-push, kept_base, log_with}
@@ -532,7 +532,7 @@ heard-same {A} m t b runs (s ∷ older) x after e =
     let k = known_log_of m.group (s ∷ older) in
     let old : Exchange A = exchange_after_messages (exchange_opening s.members) s.heard in
     let new : Exchange A = exchange_after_messages (exchange_opening s.members) (s.heard ++ x ∷ []) in
-    ap (λ bs. if runs then (if is_primary m.group s.members then due_when_heads_complete m.me bs (retained_log k) old new ++ due_sends_when_complete m after old new else [])
+    ap (λ bs. if runs then (if is_primary m.group s.members then due_when_heads_complete m.me bs (retained_log k) old new ++ due_when_complete (due_context m) after old new else [])
     else []) e
 
 due_sends-same : {A : Type 0} (m : StepContext A) (t : ℕ) (b : List ℕ) (epochs : List (Epoch A)) (o : Out A)

@@ -1,7 +1,7 @@
 -- The values that a node stores of its newest ring as its core gives outputs, and the effect of a message on them.
 -- Rules: The replicated log 2 to 12 and 20
-use Rattle.std.specs.Prelude.{◌≡◌, ℕ, ◌+◌, ◌≤◌, Bool, true, false, not, ◌&&◌, nat_le, nat_lt, if◌then◌else◌, List, [], ◌∷◌, ◌++◌}
-use Rattle.std.specs.Prelude.{◌<◌, ◌-◌, ◌⊎◌, take, length, map, filter, is_some, Option, Some, None, unwrap_or}
+use Rattle.std.specs.Prelude.{◌≡◌, ℕ, ◌+◌, ◌≤◌, Bool, true, false, ◌&&◌, nat_le, nat_lt, if◌then◌else◌, List, [], ◌∷◌, ◌++◌}
+use Rattle.std.specs.Prelude.{◌<◌, ◌-◌, ◌⊎◌, take, length, is_some, Option, Some, None, unwrap_or}
 use Rattle.ring_base.specs.Group.{Group, is_primary}
 use Rattle.ring_base.specs.Rings.{same_ring}
 use Rattle.ring_base.specs.declared.ring_id.RingId.{RingId}
@@ -14,14 +14,13 @@ use Rattle.ring_node_spec.specs.Outs.{Out}
 use Rattle.ring_node_spec.specs.OutVariants.{Send, Agreed, Safe, Trans, Rest, Regular}
 use Rattle.ring_log.specs.declared.base.Base.{Base}
 use Rattle.ring_log.specs.declared.wanted.Wanted.{Wanted}
-use Rattle.ring_log.specs.Exchanges.{Exchange, exchange_opening, wanted, heard, is_exchange_complete, base_at, exchange_drained}
+use Rattle.ring_log.specs.Exchanges.{Exchange, exchange_opening, wanted, heard, base_at, exchange_drained}
 use Rattle.ring_log.specs.Logs.{Log, log_opening, log_length, appended, restores, restored_log, joined_log, trimmed_log, is_adoptable, is_log_length}
 use Rattle.ring_log.specs.Epochs.{Epoch, history_opening_of, epochs_with_trim}
 use Rattle.ring_log.specs.EpochHistories.{CompleteExchange, complete_exchange_from, exchange_after_messages, complete_exchange, messages_upto}
 use Rattle.ring_log.specs.KnownLog.{KnownLog, IsKnownLog, adopts, watermark_by, known_log_of, retained_log, is_known_log_sound}
 use Rattle.ring_session.specs.declared.pending_ticket.PendingTicket.{PendingTicket}
-use Rattle.ring_session.specs.TicketsState.{contains_call}
-use Rattle.ring_node_spec.specs.DueSends.{owner_due, due_when_heads_complete, uncommitted_places, due_at_regular}
+use Rattle.ring_node_spec.specs.DueSends.{DueContext, owner_due, calls_not_in, uncommitted_places, due_on_message, due_on_output, due_on_outputs}
 use Rattle.ring_node_spec.specs.EpochHistories.{epochs_after_event}
 use Rattle.ring_node_spec.specs.Nodes.{is_closed}
 use Rattle.ring_replication.specs.declared.delivery_context.DeliveryContext.{DeliveryContext}
@@ -195,7 +194,7 @@ IsReplicationConsistent group epochs consistent held ring stage mark watermarks 
 
 -- the calls of the unanswered tickets that aren't at these places
 abbrev pub calls_to_resend : {A : Type 0} → List (PendingTicket A) → List (OneCall A) → List (Payload A)
-calls_to_resend pending calls = map (λ (p : PendingTicket _). Call p.call) (filter (λ (p : PendingTicket _). not (contains_call calls p.call)) pending)
+calls_to_resend {A} = calls_not_in (λ (p : PendingTicket A). p.call)
 
 -- due of the owner at the message that makes something wanted
 abbrev pub owner_asked : {A : Type 0} → ℕ → HeldLog A → Option Wanted → Option Wanted → List (Payload A)
@@ -294,46 +293,29 @@ pub record StepContext (A : Type 0) : Type 0 where
 abbrev pub bytes_at : {A : Type 0} → StepContext A → KnownLog A → List ℕ
 bytes_at m k = if nat_lt m.trimmed k.trimmed then k.snapshot else m.snapshot
 
--- due when the exchange completes: the calls of the unanswered tickets that aren't in the base after the committed
--- places
-abbrev pub due_sends_when_complete : {A : Type 0} → StepContext A → List (Epoch A) → Exchange A → Exchange A → List (Payload A)
-due_sends_when_complete m epochs old new =
-    if is_exchange_complete new && not (is_exchange_complete old) then calls_to_resend m.pending (uncommitted_places m.committed (retained_log (known_log_of m.group epochs))) else []
-
--- due when the last Head is received: the owner's payloads
-abbrev pub owner_due_sends : {A : Type 0} → StepContext A → KnownLog A → Exchange A → Exchange A → List (Payload A)
-owner_due_sends m k old new = due_when_heads_complete m.me (bytes_at m k) (retained_log k) old new
-
--- due at the message that turns the exchange `old` into `new`; `before` and `epochs` are the node's epochs before and
--- after it
-abbrev pub due_sends_between : {A : Type 0} → StepContext A → List (Epoch A) → List (Epoch A) → Exchange A → Exchange A → List (Payload A)
-due_sends_between m before epochs old new = owner_due_sends m (known_log_of m.group before) old new ++ due_sends_when_complete m epochs old new
-
--- due at a message of this epoch; nothing if its members aren't primary
-abbrev pub due_sends_in_epoch : {A : Type 0} → StepContext A → Epoch A → List (Epoch A) → Message A → List (Epoch A) → List (Payload A)
-due_sends_in_epoch m s before x epochs =
-    if is_primary m.group s.members
-    then due_sends_between m before epochs (exchange_after_messages (exchange_opening s.members) s.heard) (exchange_after_messages (exchange_opening s.members) (s.heard ++ x ∷ []))
-    else []
+-- the context of the due payloads of a step
+abbrev pub due_context : {A : Type 0} → StepContext A → DueContext A
+due_context m =
+    record {
+      group = m.group;
+      me = m.me;
+      runs = is_running m.running;
+      pending_not_in = calls_to_resend m.pending;
+      committed = m.committed;
+      snapshot = bytes_at m;
+    }
 
 -- due at a message of the newest epoch, if its ring runs
 abbrev pub due_sends_on_message : {A : Type 0} → StepContext A → Bool → List (Epoch A) → Message A → List (Epoch A) → List (Payload A)
-due_sends_on_message m runs [] x epochs = []
-due_sends_on_message m runs (s ∷ older) x epochs = if runs then due_sends_in_epoch m s (s ∷ older) x epochs else []
+due_sends_on_message m = due_on_message (due_context m)
 
 -- due at an output, given the epochs before it
 abbrev pub due_sends_at : {A : Type 0} → StepContext A → List (Epoch A) → Out A → List (Payload A)
-due_sends_at m epochs (Agreed ring k x) = due_sends_on_message m (is_running m.running ring) epochs x (epochs_after_event epochs (Agreed ring k x))
-due_sends_at m epochs (Regular ring set) = due_at_regular m.group set epochs
-due_sends_at m epochs (Send to frame) = []
-due_sends_at m epochs (Safe ring upto) = []
-due_sends_at m epochs (Trans old new set) = []
-due_sends_at m epochs (Rest ring k x) = []
+due_sends_at m = due_on_output (due_context m)
 
 -- due at outputs, in their order
 abbrev pub due_sends_by : {A : Type 0} → StepContext A → List (Epoch A) → List (Out A) → List (Payload A)
-due_sends_by m epochs [] = []
-due_sends_by m epochs (o ∷ outs) = due_sends_at m epochs o ++ due_sends_by m (epochs_after_event epochs o) outs
+due_sends_by m = due_on_outputs (due_context m)
 
 -- the mark isn't below the newest epoch's
 abbrev pub is_risen : {A : Type 0} → List (Epoch A) → ℕ → Bool

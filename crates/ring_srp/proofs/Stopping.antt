@@ -1,7 +1,9 @@
 -- A core that hasn't stopped is the running one.
-use Rattle.std.proofs.Common.{◌≡◌, Option, Some, ap, sym, ◌∙◌}
+use Rattle.std.proofs.Common.{◌≡◌, ap, sym, ◌∙◌}
 use Rattle.ring_core_spec.specs.State.{Core}
-use Rattle.ring_srp.specs.Ended.{running_or}
+use Rattle.ring_srp.specs.Stopping.{core_of}
+use Rattle.ring_srp.specs.declared.srp.StoppableCore.{StoppableCore}
+use Rattle.ring_srp.specs.declared.srp.StoppableCore.TheVariants.{Running}
 
-pub runs_as : {A : Type 0} (kept : Option (Core A)) (before c now : Core A) → running_or kept before ≡ now → kept ≡ Some c → c ≡ now
-runs_as {A} kept before c now v is = sym (ap (λ (o : Option (Core A)). running_or o before) is) ∙ v
+pub runs_as : {A : Type 0} (core : StoppableCore A) (c now : Core A) → core_of core ≡ now → core ≡ Running c → c ≡ now
+runs_as {A} core c now v is = sym (ap (λ (s : StoppableCore A). core_of s) is) ∙ v

@@ -1,3 +1,3 @@
-pub mod Ended
 pub mod Given
 pub mod Inputs
+pub mod Stopping

@@ -4,7 +4,7 @@
 //!
 //! Rules: Rings and states 5, 8, 9 and 12 to 14; Outputs 1 and 2; Refusals 4 to 6
 
-ghost use Rattle.std.specs.Prelude.{◌≡◌, ◌≤◌, false, [], None, Ok, Err, if◌then◌else◌, IfOk, IfErr, OnOk, OnErr};
+ghost use Rattle.std.specs.Prelude.{◌≡◌, ◌≤◌, false, [], Ok, Err, if◌then◌else◌, IfOk, IfErr, OnOk, OnErr};
 ghost use Rattle.ring_base.specs.declared.fault.Fault.TheVariants.{Memory, Stopped as StoppedFault};
 ghost use Rattle.ring_core_spec.specs.Giving.{may_install, sent};
 ghost use Rattle.ring_core_spec.specs.State.{formed_ring_of, opening, formed, halted, is_stopped};
@@ -15,6 +15,7 @@ ghost use Rattle.ring_wire.specs.Frames.{FrameFits};
 ghost use Rattle.ring_srp_transitions.specs.Allowing.{InputFits};
 ghost use Rattle.ring_core_spec.specs.Tokens.{first_token};
 ghost use Rattle.ring_srp.specs.Given.{IsGiven};
+ghost use Rattle.ring_srp.specs.declared.srp.StoppableCore.TheVariants.{Stopped as StoppedVariant};
 
 use crate::stepping::{
     enqueue_if_operational, step, step_into_one_list, step_on_frame, visit_first_token,
@@ -34,8 +35,19 @@ use std::marker::Model;
 /// Rules: Rings and states 3, 6 and 8
 #[derive(Drop)]
 pub struct Srp<A: Allocator + Copy = Global> {
-    /// The running core, `None` after a stop.
-    running_core: Option<RunningCore<A>>,
+    core: StoppableCore<A>,
+}
+
+/// A core that runs, or what is kept of one that has stopped.
+#[derive(Drop)]
+enum StoppableCore<A: Allocator + Copy> {
+    Running(RunningCore<A>),
+    Stopped(StoppedCore<A>),
+}
+
+/// What is kept of a core after a stop.
+#[derive(Drop)]
+struct StoppedCore<A: Allocator + Copy> {
     /// The last installed ring at the time of the stop.
     last_installed: Configuration,
     /// The core at the time of the stop, for contracts.
@@ -44,13 +56,13 @@ pub struct Srp<A: Allocator + Copy = Global> {
 
 impl<A: Allocator + Copy> Model for Srp<A> {
     ghost use Rattle.ring_core_spec.specs.State.{Core as OneCore};
-    ghost use Rattle.ring_srp.specs.Ended.{running_or, IsEnded};
+    ghost use Rattle.ring_srp.specs.Stopping.{core_of, IsBetweenSteps};
 
     ghost Value = { OneCore A };
 
-    ghost view = { λ s. running_or s.running_core s.core_at_stop.value };
+    ghost view = { λ s. core_of s.core };
 
-    ghost invariant = { λ s. IsEnded s.running_core s.core_at_stop.value s.last_installed };
+    ghost invariant = { λ s. IsBetweenSteps s.core };
 }
 
 impl<A: Allocator + Copy> Srp<A> {
@@ -123,17 +135,14 @@ impl<A: Allocator + Copy> Srp<A> {
         ensures err { OnErr result (self.new ≡ halted self.old) }
         ensures refused { IfErr result (λ fault. fault ≡ (if is_stopped self.old.state then StoppedFault else Memory)) }
     {
-        let Some(running_core) = &mut self.running_core else {
+        let StoppableCore::Running(running_core) = &mut self.core else {
             return Err(Fault::Stopped);
         };
-        let last = running_core.installed();
-        let before = ghost_now(running_core);
+        let stopped = stopped_core(running_core);
         match step_into_one_list(running_core, input) {
             Ok(outs) => Ok(outs),
             Err(refused) => {
-                drop_value(&mut self.running_core);
-                self.last_installed = last;
-                self.core_at_stop = before;
+                stop_core(&mut self.core, stopped);
                 Err(refused)
             }
         }
@@ -164,17 +173,14 @@ impl<A: Allocator + Copy> Srp<A> {
         ensures err { OnErr result (self.new ≡ halted self.old) }
         ensures refused { IfErr result (λ fault. fault ≡ (if is_stopped self.old.state then StoppedFault else Memory)) }
     {
-        let Some(running_core) = &mut self.running_core else {
+        let StoppableCore::Running(running_core) = &mut self.core else {
             return Err(Fault::Stopped);
         };
-        let last = running_core.installed();
-        let before = ghost_now(running_core);
+        let stopped = stopped_core(running_core);
         match step_on_frame(running_core, frame, sends) {
             Ok(told) => Ok(told),
             Err(refused) => {
-                drop_value(&mut self.running_core);
-                self.last_installed = last;
-                self.core_at_stop = before;
+                stop_core(&mut self.core, stopped);
                 Err(refused)
             }
         }
@@ -202,17 +208,14 @@ impl<A: Allocator + Copy> Srp<A> {
         ensures err { OnErr result (self.new ≡ halted self.old) }
         ensures refused { IfErr result (λ fault. fault ≡ (if is_stopped self.old.state then StoppedFault else Memory)) }
     {
-        let Some(running_core) = &mut self.running_core else {
+        let StoppableCore::Running(running_core) = &mut self.core else {
             return Err(Fault::Stopped);
         };
-        let last = running_core.installed();
-        let before = ghost_now(running_core);
+        let stopped = stopped_core(running_core);
         match step(running_core, Input::Timeout(kind), sends) {
             Ok(told) => Ok(told),
             Err(refused) => {
-                drop_value(&mut self.running_core);
-                self.last_installed = last;
-                self.core_at_stop = before;
+                stop_core(&mut self.core, stopped);
                 Err(refused)
             }
         }
@@ -234,7 +237,7 @@ impl<A: Allocator + Copy> Srp<A> {
         ensures kept { OnErr result (self.new ≡ self.old) }
         ensures refused { IfErr result (λ fault. fault ≡ (if is_stopped self.old.state then StoppedFault else Memory)) }
     {
-        let Some(running_core) = &mut self.running_core else {
+        let StoppableCore::Running(running_core) = &mut self.core else {
             return Err(Fault::Stopped);
         };
         enqueue_if_operational(running_core, payload)
@@ -249,12 +252,9 @@ impl<A: Allocator + Copy> Srp<A> {
     pub fn stop(&mut self)
         ensures { self.new ≡ halted self.old }
     {
-        if let Some(running_core) = &self.running_core {
-            let last = running_core.installed();
-            let before = ghost_now(running_core);
-            drop_value(&mut self.running_core);
-            self.last_installed = last;
-            self.core_at_stop = before;
+        if let StoppableCore::Running(running_core) = &self.core {
+            let stopped = stopped_core(running_core);
+            stop_core(&mut self.core, stopped);
         }
     }
 
@@ -264,9 +264,9 @@ impl<A: Allocator + Copy> Srp<A> {
     pub fn state(&self) -> State
         ensures { result ≡ self.now.state }
     {
-        match &self.running_core {
-            Some(running_core) => running_core.state(),
-            None => State::Stopped,
+        match &self.core {
+            StoppableCore::Running(running_core) => running_core.state(),
+            StoppableCore::Stopped(_) => State::Stopped,
         }
     }
 
@@ -279,9 +279,9 @@ impl<A: Allocator + Copy> Srp<A> {
     pub fn installed(&self) -> Configuration
         ensures { result ≡ self.now.installed }
     {
-        match &self.running_core {
-            Some(running_core) => running_core.installed(),
-            None => self.last_installed,
+        match &self.core {
+            StoppableCore::Running(running_core) => running_core.installed(),
+            StoppableCore::Stopped(stopped) => stopped.last_installed,
         }
     }
 
@@ -308,9 +308,7 @@ impl<A: Allocator + Copy> Clone for Srp<A> {
 
     fn clone(&self) -> Result<Srp<A>, AllocError> {
         Ok(Srp {
-            last_installed: self.last_installed,
-            core_at_stop: self.core_at_stop.clone()?,
-            running_core: copied_running_core(&self.running_core)?,
+            core: copied_core(&self.core)?,
         })
     }
 }
@@ -320,12 +318,8 @@ fn from_running_core<A: Allocator + Copy>(running_core: RunningCore<A>) -> Srp<A
     requires { may_install running_core ≡ false }
     ensures { result ≡ running_core }
 {
-    let last = running_core.installed();
-    let before = ghost_now(&running_core);
     Srp {
-        running_core: Some(running_core),
-        last_installed: last,
-        core_at_stop: before,
+        core: StoppableCore::Running(running_core),
     }
 }
 
@@ -343,19 +337,35 @@ fn start_representative<A: Allocator + Copy>(
     pair_result(running_core, outs)
 }
 
-/// Returns a copy of the running core, if there is one.
-fn copied_running_core<A: Allocator + Copy>(
-    running_core: &Option<RunningCore<A>>,
-) -> Result<Option<RunningCore<A>>, AllocError>
-    ensures { IfOk result (λ copy. copy ≡ running_core.now) }
+/// Returns a copy of the core.
+fn copied_core<A: Allocator + Copy>(core: &StoppableCore<A>) -> Result<StoppableCore<A>, AllocError>
+    ensures { IfOk result (λ copy. copy ≡ core.now) }
 {
-    running_core.clone()
+    match core {
+        StoppableCore::Running(running_core) => Ok(StoppableCore::Running(running_core.clone()?)),
+        StoppableCore::Stopped(stopped) => Ok(StoppableCore::Stopped(StoppedCore {
+            last_installed: stopped.last_installed,
+            core_at_stop: stopped.core_at_stop.clone()?,
+        })),
+    }
 }
 
-/// Drops the value and leaves `None`.
-#[inline(never)]
-fn drop_value<M: Drop>(running_core: &mut Option<M>)
-    ensures { running_core.new ≡ None }
+/// Returns what is kept of the running core if it stops now.
+fn stopped_core<A: Allocator + Copy>(running_core: &RunningCore<A>) -> StoppedCore<A>
+    ensures installed { result.last_installed ≡ running_core.now.installed }
+    ensures core { result.core_at_stop.value ≡ running_core.now }
+    ensures runs { is_stopped running_core.now.state ≡ false }
 {
-    *running_core = None;
+    StoppedCore {
+        last_installed: running_core.installed(),
+        core_at_stop: ghost_now(running_core),
+    }
+}
+
+/// Drops the running core, and keeps only `stopped`.
+#[inline(never)]
+fn stop_core<A: Allocator + Copy>(core: &mut StoppableCore<A>, stopped: StoppedCore<A>)
+    ensures { core.new ≡ StoppedVariant stopped }
+{
+    *core = StoppableCore::Stopped(stopped);
 }

@@ -11,17 +11,17 @@ use Rattle.ring_srp.proofs.srp.Srp.receive.Goals as goal
 
 pub invariant_of-self-in-Ok-1 : goal.invariant_of-self-in-Ok-1
 invariant_of-self-in-Ok-1 g c =
-    ap (λ (x : Core g.row.A.Denot). may_install x) c.in-Ok.ensures.core ∙ stepped_is c.in-Some.running_core (FrameInput c.args.frame.now)
+    ap (λ (x : Core g.row.A.Denot). may_install x) c.in-Ok.ensures.core ∙ stepped_is c.in-Running.running_core (FrameInput c.args.frame.now)
 
 pub returns-in-Ok-clause-given : goal.returns-in-Ok-clause-given
 returns-in-Ok-clause-given g c =
     subst (λ (x : Core g.row.A.Denot). IsGiven (ring_step x (FrameInput c.args.frame.now)).outs c.step_on_frame.new.sends.items c.in-Ok.told.items)
-    (runs_as _ _ c.in-Some.running_core _ c.self.view_is c.in-Some.is) c.in-Ok.ensures.given
+    (runs_as _ c.in-Running.running_core _ c.self.view_is c.in-Running.is) c.in-Ok.ensures.given
 
 pub returns-in-Ok-clause-ok : goal.returns-in-Ok-clause-ok
 returns-in-Ok-clause-ok g c = c.in-Ok.ensures.core
-    ∙ ap (λ (x : Core g.row.A.Denot). (ring_step x (FrameInput c.args.frame.now)).core) (runs_as _ _ c.in-Some.running_core _ c.self.view_is c.in-Some.is)
+    ∙ ap (λ (x : Core g.row.A.Denot). (ring_step x (FrameInput c.args.frame.now)).core) (runs_as _ c.in-Running.running_core _ c.self.view_is c.in-Running.is)
 
 pub returns-in-Ok-clause-running : goal.returns-in-Ok-clause-running
 returns-in-Ok-clause-running g c = subst (λ (x : Core g.row.A.Denot). is_stopped x.state ≡ false)
-    (runs_as _ _ c.in-Some.running_core _ c.self.view_is c.in-Some.is) c.in-Ok.ensures.running
+    (runs_as _ c.in-Running.running_core _ c.self.view_is c.in-Running.is) c.in-Ok.ensures.running
