@@ -70,7 +70,7 @@ def beside(program: Path, options: argparse.Namespace) -> list[str]:
 
 def calls_a_second(program: Path, options: argparse.Namespace, network: Namespaces, in_flight: list[int]) -> tuple[list[int], list[str]]:
     """The group's answered calls in each second, with so many connections at each node, from the second second of calls on."""
-    group, clients, counts = Group(program, options, network), list[subprocess.Popen](), list[int]()
+    group, clients, counts = Group(program, options, network, has_key=False), list[subprocess.Popen](), list[int]()
     try:
         group.wait_until_ready()
         for me, count in enumerate(in_flight, 1):
