@@ -34,7 +34,7 @@ def built(folder: Path, options: argparse.Namespace) -> Path:
 class Group:
     """The processes of a group. Process I serves clients at port `port` + I."""
 
-    def __init__(self, program: Path, options: argparse.Namespace, network: Loopback | None = None, another_key: bool = False) -> None:
+    def __init__(self, program: Path, options: argparse.Namespace, network: Loopback | None = None, another_key: bool = False, has_key: bool = True) -> None:
         self.network = network or Loopback(options.nodes, options.port)
         self.nodes, self.port, self.folder, self.processes = options.nodes, options.port + 400, program.parent, {}
         name = f"{os.getpid()}-{next(GROUPS)}"  # a new group has a new name
@@ -42,7 +42,8 @@ class Group:
             (program.parent / file).write_text(f"the text of a trial's key, whose file is {file}", encoding="ascii")
         for me in range(1, self.nodes + 1):
             key = program.parent / ("another_key" if another_key and me == self.nodes else "key")
-            words = [*self.network.words_before(me), program, "--me", me, "--totem", options.totem, "--key", key, "--group", name]
+            words = [*self.network.words_before(me), program, "--me", me, "--totem", options.totem, "--group", name]
+            words += ["--key", key] if has_key else []
             words += ["--listen", "%s:%d" % self.address(me), "--peers", self.network.peers_of(me), "--deadline", options.deadline]
             words += ["--periods", options.periods] if options.periods else []
             # A session of its own, so that the node beside it is stopped and killed with it.

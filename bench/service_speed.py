@@ -15,6 +15,7 @@ import corosync
 from networks import Namespaces
 from service_group import Group, ask, members
 
+CLIENT = Path(__file__).resolve().parent / "resp_client.c"
 COROSYNC = {"corosync, each call told by itself": 1, "corosync, calls told together": 1 << 30}  # bench/cpg_client.c: MOST
 
 
@@ -47,6 +48,7 @@ def load(program: Path, options: argparse.Namespace) -> list[str]:
 def beside(program: Path, options: argparse.Namespace) -> list[str]:
     """Calls a second of corosync and of ours, in turns."""
     network, client, wrong = Namespaces(options.nodes, options.port), corosync.built(program.parent), list[str]()
+    subprocess.run(["cc", "-O2", "-Wall", "-Wextra", "-Werror", "-o", program.parent / "resp_client", CLIENT], check=True)
     found: dict[tuple[int, str], list[int]] = {}
     try:
         for _, in_flight in itertools.product(range(options.runs), (1, 64)):
@@ -68,20 +70,19 @@ def beside(program: Path, options: argparse.Namespace) -> list[str]:
 
 def calls_a_second(program: Path, options: argparse.Namespace, network: Namespaces, in_flight: list[int]) -> tuple[list[int], list[str]]:
     """The group's answered calls in each second, with so many connections at each node, from the second second of calls on."""
-    group, benchmarks, counts = Group(program, options, network), list[subprocess.Popen](), list[int]()
+    group, clients, counts = Group(program, options, network, has_key=False), list[subprocess.Popen](), list[int]()
     try:
         group.wait_until_ready()
         for me, count in enumerate(in_flight, 1):
-            words = [*network.words_before(me), "redis-benchmark", "-h", group.address(me)[0], "-p", group.address(me)[1]]
-            words += ["-n", 10**9, "-c", count, "INCRBY", "c0", "1"]
+            words = [*network.words_before(me), program.parent / "resp_client", *group.address(me), count]
             if count > 0:
-                benchmarks.append(subprocess.Popen([str(word) for word in words], stdout=subprocess.DEVNULL, stderr=subprocess.DEVNULL))
+                clients.append(subprocess.Popen([str(word) for word in words]))
         begin = monotonic() + 1
         for second in range(int(options.seconds) + 1):
             time.sleep(max(0.0, begin + second - monotonic()))
             counts.append(sum(int(re.search(rb"answered:(\d+)", ask(group.address(me), "INFO"))[1]) for me in group.processes))
     finally:
-        for process in benchmarks:
+        for process in clients:
             process.kill()
             process.wait()
         wrong = group.end()

@@ -5,6 +5,7 @@
 #include "../common/group.h"
 #include "../common/node.h"
 #include "calls.h"
+#include "events.h"
 #include "info.h"
 #include "options.h"
 
@@ -20,6 +21,7 @@ enum { INPUT_BYTES = 16384, REPLY_ROOM = 2048 }; /* no reply is longer than this
 struct connection {
     enum { IDLE, WAITING, SUBMITTED } state; /* no command; a command that was not submitted; one that was */
     int socket, has_ended, is_closing;       /* the client sends no more; nothing more is read of it */
+    uint32_t watched;                        /* the events that it waits for */
     struct operation operation;
     uint64_t deadline;
     size_t input_length;
@@ -46,6 +48,16 @@ unsigned count_waiting(void) {
     return count;
 }
 
+static int has_room_for_input(const struct connection *connection) {
+    return !connection->has_ended && !connection->is_closing && connection->input_length < INPUT_BYTES;
+}
+
+/* A closed connection whose command is under way waits for nothing: it would be an event without end. */
+static void watch_connection(struct connection *connection) {
+    uint32_t events = (has_room_for_input(connection) ? EPOLLIN : 0) | (connection->output.length > 0 ? EPOLLOUT : 0);
+    watch_file(connection->socket, connection, events, &connection->watched);
+}
+
 void accept_connections(int listener) {
     static const char FULL[] = "-ERR max number of clients reached\r\n";
     for (int client; (client = accept4(listener, NULL, NULL, SOCK_NONBLOCK | SOCK_CLOEXEC)) >= 0;) {
@@ -59,34 +71,18 @@ void accept_connections(int listener) {
         connection->state = IDLE;
         connection->socket = client;
         connection->has_ended = connection->is_closing = 0;
+        connection->watched = 0;
         connection->input_length = connection->output.length = 0;
+        watch_connection(connection);
     }
 }
 
-static int has_room_for_input(const struct connection *connection) {
-    return !connection->has_ended && !connection->is_closing && connection->input_length < INPUT_BYTES;
-}
-
-size_t list_events(struct pollfd *waits) {
-    for (unsigned i = 0; i < connection_count; i++) {
-        const struct connection *connection = connections[i];
-        int events = (has_room_for_input(connection) ? POLLIN : 0) | (connection->output.length > 0 ? POLLOUT : 0);
-        /* A closed connection would be an event without end, though its command is under way. */
-        waits[i] = (struct pollfd){.fd = events ? connection->socket : -1, .events = (short)events};
-    }
-    return connection_count;
-}
-
-static void read_input(struct connection *connection) {
+void read_commands(struct connection *connection) {
     size_t room = INPUT_BYTES - connection->input_length;
+    if (!has_room_for_input(connection)) return;
     ssize_t length = recv(connection->socket, connection->input + connection->input_length, room, MSG_DONTWAIT);
     if (length > 0) connection->input_length += (size_t)length;
     else if (length == 0 || (errno != EAGAIN && errno != EINTR)) connection->has_ended = 1;
-}
-
-void handle_events(const struct pollfd *waits, size_t count) {
-    for (size_t i = 0; i < count; i++)
-        if (waits[i].revents && has_room_for_input(connections[i])) read_input(connections[i]);
 }
 
 static void drop_input(struct connection *connection, size_t length) {
@@ -202,6 +198,7 @@ void send_replies(void) {
     for (unsigned i = 0; i < connection_count; i++) send_output(connections[i]);
     for (unsigned i = connection_count; i-- > 0;)
         if (is_done(connections[i])) close_connection(i);
+        else watch_connection(connections[i]);
 }
 
 void close_connections(void) {

@@ -5,7 +5,6 @@
 
 #include "objects.h"
 
-#include <poll.h>
 #include <stddef.h>
 
 enum { MAX_CONNECTIONS = 512 };
@@ -20,11 +19,8 @@ unsigned count_waiting(void);
 /* Opens the socket at which clients connect. Returns it. */
 int open_connections(void);
 
-/* Writes what each connection waits for. Returns how many it wrote: MAX_CONNECTIONS at most. */
-size_t list_events(struct pollfd *waits);
-
-/* Handles what `list_events` waited for: reads commands and sends replies. */
-void handle_events(const struct pollfd *waits, size_t count);
+/* Reads commands of a connection at which something happened. */
+void read_commands(struct connection *connection);
 
 /* Accepts all clients that wait. */
 void accept_connections(int listener);
@@ -32,7 +28,7 @@ void accept_connections(int listener);
 /* Runs the commands that can be run. */
 void run_commands(void);
 
-/* Sends the replies that are there, and closes the connections that are done. */
+/* Sends the replies that are there, closes the connections that are done, and has the others wait for what they can take. */
 void send_replies(void);
 
 /* The group's answer to the connection's command: the kind of a record D, K or R, and the object's reply. */

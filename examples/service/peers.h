@@ -1,10 +1,11 @@
-/* The datagrams between the nodes of a group. Each is a frame in an envelope:
+/* The datagrams between the nodes of a group. Each is frames in an envelope:
  *
- *     version u8 (1), sender u8, group (16 bytes), the frame, hash (32 bytes)
+ *     version u8 (2), sender u8, group (16 bytes), frames, hash (32 bytes; only with --key)
  *
- * The group is a hash of the group's name and the number of its processors, the last part a hash of all before it, by BLAKE2b.
- * With --key it is a keyed hash, so that only who has the key can send to the group. What doesn't fit is dropped. Frames are sent
- * by `send_frame` and `wake_others` of node.h. */
+ * A frame tells its own length. The group is a hash of the group's name and the number of its processors, and of whether there is a
+ * key; the last part is a keyed hash of all before it, by BLAKE2b, so that only who has the key can send to the group. What doesn't
+ * fit is dropped. Frames are sent by `send_frame` and `wake_others` of node.h: those of one round that go to the same processors
+ * share a datagram, as long as it fits a packet of Ethernet. A token goes with the messages before it. */
 #ifndef SERVICE_PEERS_H
 #define SERVICE_PEERS_H
 
@@ -20,4 +21,7 @@ int open_peers(void);
 
 /* Gives the node the frames that wait and fit, but not without end: timeouts may be due. */
 void take_frames(void);
+
+/* Sends the frames that `send_frame` was given. */
+void flush_frames(void);
 #endif

@@ -3,15 +3,14 @@
  * is proved. */
 #define _GNU_SOURCE
 #include "../common/clock.h"
-#include "../common/datagrams.h"
 #include "../common/group.h"
 #include "../common/node.h"
 #include "calls.h"
 #include "connections.h"
+#include "events.h"
 #include "options.h"
 #include "peers.h"
 
-#include <poll.h>
 #include <signal.h>
 #include <stdio.h>
 
@@ -24,29 +23,25 @@ static void note_signal(int number) {
     has_to_end = 1;
 }
 
-/* Returns how many of the files can be read or written, once one can or something is due; below 0 at a signal. In a busy ring a
- * frame mostly comes sooner than a process that sleeps wakes up. So it looks again and again at first. */
-static int wait_for_files(struct pollfd *waits, size_t count) {
-    const struct timespec none = {0};
+/* Takes the next events, once there are any or something is due. Returns how many; below 0 at a signal. In a busy ring a frame mostly
+ * comes sooner than a process that sleeps wakes up. So it looks again and again at first. */
+static int wait_for_events(struct epoll_event *events) {
     uint64_t begin = now(), due = next_due_time(), wait = due > begin ? due - begin : 0;
-    int ready = 0;
+    int count = 0;
     if (!is_ring_idle())
-        do ready = ppoll(waits, count, &none, NULL);
-        while (ready == 0 && now() < begin + (wait < MOST_LOOKING ? wait : MOST_LOOKING));
-    if (ready != 0) return ready;
-    struct timespec left = {.tv_sec = (time_t)(wait / SECOND), .tv_nsec = (long)(wait % SECOND) * 1000};
-    return ppoll(waits, count, &left, NULL);
+        do count = take_events(events, 0);
+        while (count == 0 && now() < begin + (wait < MOST_LOOKING ? wait : MOST_LOOKING));
+    return count != 0 ? count : take_events(events, wait);
 }
 
-/* Waits for a frame, a client, or the time at which something is due. */
-static void wait_for_events(int peer_socket, int listener) {
-    static struct pollfd waits[2 + MAX_CONNECTIONS];
-    waits[0] = (struct pollfd){.fd = peer_socket, .events = POLLIN};
-    waits[1] = (struct pollfd){.fd = listener, .events = POLLIN};
-    size_t count = list_events(waits + 2);
-    if (wait_for_files(waits, 2 + count) <= 0) return;
-    handle_events(waits + 2, count);
-    if (waits[1].revents) accept_connections(listener);
+/* Reads what clients sent. Events without an owner are the peers': their frames are taken in each round. */
+static void handle_events(const struct epoll_event *events, int count, int *listener) {
+    int has_clients = 0;
+    for (int i = 0; i < count; i++) {
+        if (events[i].data.ptr == listener) has_clients = 1;
+        else if (events[i].data.ptr) read_commands(events[i].data.ptr);
+    }
+    if (has_clients) accept_connections(*listener);
 }
 
 /* Does what came since the last round: commands before frames, so that they go with a token that came. Frames to the others go out
@@ -56,11 +51,11 @@ static void do_round(void) {
     take_frames();
     bring_time();
     finish_inputs();
-    flush_datagrams();
+    flush_frames();
     run_commands(); /* those behind commands that were answered */
     finish_inputs();
     send_replies();
-    flush_datagrams();
+    flush_frames();
 }
 
 int main(int count, char **words) {
@@ -71,12 +66,16 @@ int main(int count, char **words) {
     signal(SIGINT, SIG_IGN);
     signal(SIGTERM, SIG_IGN);
     int listener = open_connections(), peer_socket = open_peers();
+    struct epoll_event events[MOST_EVENTS];
     open_node();
     make_marker();
     signal(SIGINT, note_signal);
     signal(SIGTERM, note_signal);
+    open_events();
+    watch_file(peer_socket, NULL, EPOLLIN, &(uint32_t){0});
+    watch_file(listener, &listener, EPOLLIN, &(uint32_t){0});
     while (!has_to_end) {
-        wait_for_events(peer_socket, listener);
+        handle_events(events, wait_for_events(events), &listener);
         do_round();
     }
     close_connections();
