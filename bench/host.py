@@ -41,7 +41,7 @@ from pathlib import Path
 
 ROOT = Path(__file__).resolve().parent.parent
 LINE = ("host_bench: ring_base ring_payload ring_wire ring_object ring_things ring_session ring_book ring_seat ring_host "
-        "ring_driver ring_client ring_host_port ring_console ring_live crossbeam_queue atomic_table bytes\n")
+        "ring_driver ring_client ring_host_port ring_console crossbeam_queue atomic_table bytes\n")
 # Nodes, calls in flight a client, calls a client: few enough for a book of 262,144 lines.
 CASES = [(3, 1, 2_000), (16, 1, 100), (3, 64, 20_000), (16, 64, 2_000)]
 IDLE_NODES, IDLE_MILLIS = 3, 10_000

@@ -1,9 +1,9 @@
 //! Tests of what the contracts of the client don't state.
 //!
 //! A port is asked once a call, runs over scripted ports are worked through, and a refused request for memory is
-//! reported as such. They also check the refusals of a run of callers, which of several refusals comes, and that no
-//! caller makes a call before them. Three clients and nodes with small inboxes run on threads. Other clients of nodes
-//! are in `ring_world_port_tests`.
+//! reported as such. They also check the refusals of a run of callers, which of several refusals comes, that no caller
+//! makes a call before them, and that a caller which waits for another ends also if that one can't be started. Three
+//! clients and nodes with small inboxes run on threads. Other clients of nodes are in `ring_world_port_tests`.
 #![tactic(auto)]
 
 #[cfg(test)]
@@ -18,3 +18,5 @@ mod memory;
 mod scripted;
 #[cfg(test)]
 mod tests;
+#[cfg(test)]
+mod waiting_callers;

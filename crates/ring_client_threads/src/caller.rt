@@ -36,10 +36,20 @@ pub trait Caller {
     ///
     /// The run calls this once at most, on the client's thread. A call returns `NoAnswer` if each node was tried
     /// without success, as happens while the nodes form a ring; so use [`Client::until_answered`]. If this function
-    /// never returns, the run doesn't end either.
+    /// never returns, the run doesn't end either. If it waits for other clients to end, it has to learn of that from
+    /// their [`after_calls`](Caller::after_calls), which are called also for clients that never start.
     ///
     /// Rules: Clients 3 to 6
     fn make_calls<P: Port>(&self, client: &mut Client<P>);
+
+    /// Called when the client has ended: it makes no more calls.
+    ///
+    /// A run that starts clients calls this exactly once for each caller, on whatever thread: after `make_calls`, or in
+    /// its place if the client can't be started, because a thread or memory for its ports is refused. A run that is
+    /// refused before it starts clients never calls it. By default it does nothing.
+    ///
+    /// Rules: The book and the threads 28
+    fn after_calls(&self) {}
 }
 
 /// Makes the calls of client `number`, with a port to each node of the host, and returns once the caller has made them.

@@ -28,6 +28,9 @@ use std::thread::Threads;
 /// stopped before the first turn. Nodes that have nothing to do rest. Once the book's 262,144 places are used up, no
 /// call is answered any more: later calls return `NoAnswer`.
 ///
+/// If it starts clients, it calls [`Caller::after_calls`] exactly once for each caller, also if a caller's client can't
+/// be started.
+///
 /// Errors, in this order:
 /// - `NotMember` if a number in `stopped` or a caller's first node isn't a node of the group, or the callers would have
 ///   more than 256 ports. No caller has then made a call.
@@ -153,6 +156,7 @@ where
                 { run_caller(rt, alloc, host, seats_of_client, number, caller, remaining) };
                 if scope.spawn(called).is_err() {
                     remaining.fail_and_stop_nodes(rt, host);
+                    caller.after_calls();
                     remaining.finish_client(host);
                 }
             }
@@ -169,6 +173,8 @@ where
 }
 
 /// Makes the calls of client `number` if it has seats, and counts it as ended.
+///
+/// Calls the caller's `after_calls` before that, whether calls were made or not.
 fn run_caller<O: Object, K: BookName<O::Alloc>, C: Caller, W: Wait>(
     rt: &W,
     alloc: O::Alloc,
@@ -187,5 +193,6 @@ fn run_caller<O: Object, K: BookName<O::Alloc>, C: Caller, W: Wait>(
     if called.is_err() {
         running.fail_and_stop_nodes(rt, host);
     }
+    caller.after_calls();
     running.finish_client(host);
 }

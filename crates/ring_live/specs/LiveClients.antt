@@ -1,21 +1,15 @@
--- The clients of a live run, and its result.
+-- The results of a live run's clients, and of the run.
 -- Formats: The command line
-use Rattle.std.specs.Prelude.{◌≡◌, ℕ, ◌-◌, ◌^◌, min, Bool, List, [], ◌∷◌, sum_by, Option, Some, None, Result, Ok, Err}
+use Rattle.std.specs.Prelude.{◌≡◌, ℕ, ◌-◌, ◌^◌, min, Bool, List, [], ◌∷◌, sum_by, Option, Some, None, Result, Err}
 use Rattle.std.specs.Option.{unwrap_or}
 use Rattle.ring_base.specs.declared.fault.Fault.{Fault}
 use Rattle.ring_base.specs.declared.fault.Fault.TheVariants.{NotMember}
 use Rattle.ring_client.specs.Calling.{ClientOf, IsReplied}
 use Rattle.ring_client.specs.declared.last_request.Asked.{Asked}
-use Rattle.ring_host_port.specs.Clients.{AreForAll}
-use Rattle.ring_host_port.specs.Gauges.{TableId}
-use Rattle.ring_live.specs.declared.live_client.LiveClient.{LiveClient}
+use Rattle.ring_live.specs.declared.live_caller.ClientResult.{ClientResult}
 use Rattle.ring_live.specs.declared.running.LiveResult.{LiveResult}
 use Rattle.ring_things.specs.Outcome.{decoding}
 use Rattle.ring_things.specs.declared.replies.ReplyParts.{ReplyParts}
-
--- The client has a seat for each node of the host with this gauge.
-pub record HasSeats {A : Type 0} (gauge : TableId) (live_client : LiveClient A) : Type 0 where
-  pub seats : AreForAll gauge live_client.seats.items
 
 -- The bytes of the operation that reads key 0 of the counters, which are the second object of the standard object's
 -- shelf.
@@ -36,20 +30,15 @@ abbrev pub HasRead : {P : Type 0} → (P → Asked) → ClientOf P → ClientOf 
 HasRead asked old new count = (reply : List ℕ) × IsReplied asked old new read_bytes reply × (count ≡ count_in_reply reply)
 
 -- The number of adds answered to all clients.
-abbrev pub answered_of : {A : Type 0} → List (LiveClient A) → ℕ
-answered_of {A} live_clients = sum_by (λ (live_client : LiveClient A). live_client.answered) live_clients
+abbrev pub answered_of : List ClientResult → ℕ
+answered_of results = sum_by (λ (client_result : ClientResult). client_result.answered) results
 
 -- The counter that the first client read, or its fault.
-abbrev pub counter_of : {A : Type 0} → List (LiveClient A) → Result ℕ Fault
+abbrev pub counter_of : List ClientResult → Result ℕ Fault
 counter_of [] = Err NotMember
 counter_of (first ∷ others) = first.counter
 
--- The first client's counter if the run succeeded, otherwise the run's fault.
-abbrev pub counter_after : {A T : Type 0} → Result T Fault → List (LiveClient A) → Result ℕ Fault
-counter_after (Ok done) live_clients = counter_of live_clients
-counter_after (Err fault) live_clients = Err fault
-
--- The result of a run of this many nodes with these clients.
-abbrev pub live_result_of : {A T : Type 0} → ℕ → Result T Fault → List (LiveClient A) → Bool → LiveResult
-live_result_of nodes run_result live_clients is_legal =
-    record { nodes = nodes; calls = min (2 ^ 64 - 1) (answered_of live_clients); counter = counter_after run_result live_clients; is_legal = is_legal }
+-- The result of a run of this many nodes with these results of its clients.
+abbrev pub live_result_of : ℕ → List ClientResult → Bool → LiveResult
+live_result_of nodes results is_legal =
+    record { nodes = nodes; calls = min (2 ^ 64 - 1) (answered_of results); counter = counter_of results; is_legal = is_legal }

@@ -16,7 +16,7 @@ live_result_text live_result counter =
     line_of (codes "nodes " ++ decimal live_result.nodes) ++ line_of (codes "calls " ++ decimal live_result.calls) ++ line_of (codes "counter " ++ decimal counter)
     ++ line_of (legal_text live_result.is_legal)
 
--- The reason why a run is refused: there can't be this number of nodes; or there can, and an allocation fails.
+-- The reason why a run is refused: there can't be this number of nodes; or there can, and memory or a thread is refused.
 abbrev pub IsNotRun : ℕ → Fault → Type 0
 IsNotRun nodes fault = ((fault ≡ NotMember) × ¬ IsProc nodes) ⊎ ((fault ≡ Memory) × IsProc nodes)
 

@@ -62,7 +62,7 @@ pub fn live<W: Threads + Wait + Sync, O: Write, E: Write>(
 
 /// Runs nodes and clients with the standard object.
 ///
-/// Errors: `NotMember` if `nodes` isn't 1 to 16; otherwise `Memory` if an allocation fails.
+/// Errors: `NotMember` if `nodes` isn't 1 to 16; otherwise `Memory` if an allocation fails or a thread can't be started.
 fn run_standard_object<W: Threads + Wait + Sync>(
     rt: &W,
     alloc: Global,

@@ -1,21 +1,19 @@
 //! The clients of a live run.
 //!
-//! Rules: Objects 7
+//! Rules: Objects 7; The book and the threads 28
 //! Formats: The command line
 
 ghost use Rattle.std.specs.Prelude.{◌≡◌, ◌+◌, ◌≤◌, IfOk, IfErr};
 ghost use Rattle.ring_client.specs.Calling.{CallRefused};
-ghost use Rattle.ring_live.specs.LiveClients.{HasSeats, count_in_reply, read_bytes, HasRead};
+ghost use Rattle.ring_live.specs.LiveClients.{count_in_reply, read_bytes, HasRead};
 
 use ring_base::Fault;
 use ring_client::{Client, Port};
-use ring_host_port::{BookName, Host, Seat, client_with_ports};
-use ring_object::{Object, Reply};
+use ring_client_threads::Caller;
+use ring_object::Reply;
 use ring_things::{Counters, ReplyParts, ShelfPosition};
-use std::alloc::{Allocator, Global};
-use std::mem::replace;
-use std::sync::Wait;
 use std::sync::atomic::{AtomicU64, Ordering};
+use std::sync::{Mutex, Wait};
 use std::thread::{self, Parker};
 use std::time::Duration;
 
@@ -28,18 +26,11 @@ const LOOKS_BEFORE_SLEEP: u64 = 1_000;
 /// The length of a sleep, in microseconds.
 const SLEEP_MICROS: u64 = 50;
 
-/// A client with a thread of its own: its number, a seat of the host for each of its ports, and the results of its
-/// calls.
+/// The results of a client's calls.
 ///
 /// Formats: The command line
-#[derive(Drop)]
-pub(crate) struct LiveClient<A: Allocator + Copy + Drop = Global> {
-    /// The client's number, from 1, which is also the number of the node that it tries first.
-    pub(crate) number: u8,
-    /// A seat of the host for each node.
-    ///
-    /// The list is empty once the client has made its ports.
-    pub(crate) seats: Vec<Seat<A>, A>,
+#[derive(Clone, Copy)]
+pub(crate) struct ClientResult {
     /// The number of its adds that were answered.
     pub(crate) answered: u64,
     /// The counter that client 1 read, 0 for any other client; or the fault because of which there is none: `NoAnswer`
@@ -47,67 +38,86 @@ pub(crate) struct LiveClient<A: Allocator + Copy + Drop = Global> {
     pub(crate) counter: Result<u64, Fault>,
 }
 
-impl<A: Allocator + Copy + Drop> LiveClient<A> {
-    /// Creates client `number`, which hasn't called yet: no add is answered, and its counter is the fault `NoAnswer`.
-    pub(crate) fn new(number: u8, seats: Vec<Seat<A>, A>) -> LiveClient<A>
-        ensures { result.seats ≡ seats }
+/// A client of a live run, which adds 1 to the counter, and reads it at the end if it is client 1.
+///
+/// Its waits need the runtime, so it borrows it.
+///
+/// Rules: The book and the threads 28
+/// Formats: The command line
+#[derive(Drop)]
+pub(crate) struct LiveCaller<'a, W: Wait> {
+    rt: &'a W,
+    /// The client's number, from 1, which is also the number of the node that it tries first.
+    number: u8,
+    /// The number of adds that it makes.
+    calls: u8,
+    /// The number of clients of the run that have not ended.
+    running: &'a AtomicU64,
+    result: Mutex<ClientResult>,
+}
+
+impl<'a, W: Wait> LiveCaller<'a, W> {
+    /// Creates client `number`, which is to make `calls` adds.
+    ///
+    /// It hasn't called yet: no add is answered, and its counter is the fault `NoAnswer`. `running` counts the clients
+    /// of the run that have not ended, this one included.
+    pub(crate) fn new(rt: &'a W, number: u8, calls: u8, running: &'a AtomicU64) -> LiveCaller<'a, W>
+        ensures { result.number ≡ number }
     {
-        LiveClient {
+        LiveCaller {
+            rt,
             number,
-            seats,
-            answered: 0,
-            counter: Err(Fault::NoAnswer),
+            calls,
+            running,
+            result: Mutex::new(ClientResult {
+                answered: 0,
+                counter: Err(Fault::NoAnswer),
+            }),
         }
     }
-}
 
-/// Makes `calls` adds, one after the other, or ends at the first fault.
-///
-/// Client 1 then reads the counter, once no other client runs. The last client to end closes the host. `running` is the
-/// number of clients that run, this one included; it is lowered by one at the end. The results are stored in
-/// `live_client`.
-///
-/// Rules: Objects 7
-/// Formats: The command line
-pub(crate) fn run_live_client<O: Object, K: BookName<O::Alloc>, W: Wait>(
-    rt: &W,
-    alloc: O::Alloc,
-    host: &Host<O, K>,
-    calls: u8,
-    running: &AtomicU64,
-    live_client: &mut LiveClient<O::Alloc>,
-)
-    requires { HasSeats host.now.gauge live_client.old }
-{
-    let counter = add_and_read_counter(rt, alloc, host, calls, running, &mut *live_client);
-    live_client.counter = counter;
-    if running.fetch_sub(1, Ordering::SeqCst) == 1 {
-        host.close();
+    /// Returns the results of the client's calls so far.
+    pub(crate) fn result(&self) -> ClientResult {
+        *self.result.lock(self.rt)
+    }
+
+    /// Reads the counter if this is client 1, once no other client runs.
+    ///
+    /// Returns 0 for any other client.
+    ///
+    /// Errors: as for [`Client::call`].
+    fn read_after_others<P: Port>(&self, client: &mut Client<P>) -> Result<u64, Fault> {
+        if self.number != 1 {
+            return Ok(0);
+        }
+        wait_for_others(self.rt, self.running);
+        read_counter(client)
     }
 }
 
-/// Makes the client's calls.
-///
-/// Returns the counter that client 1 read, and 0 for any other client.
-fn add_and_read_counter<O: Object, K: BookName<O::Alloc>, W: Wait>(
-    rt: &W,
-    alloc: O::Alloc,
-    host: &Host<O, K>,
-    calls: u8,
-    running: &AtomicU64,
-    live_client: &mut LiveClient<O::Alloc>,
-) -> Result<u64, Fault>
-    requires { HasSeats host.now.gauge live_client.old }
-{
-    let number = live_client.number;
-    let seats = replace(&mut live_client.seats, Vec::new(alloc));
-    let mut client = client_with_ports(rt, alloc, host, seats, u32::from(number), number)?;
-    live_client.answered = add_to_counter(&mut client, calls);
-    if number != 1 {
-        return Ok(0);
+impl<'a, W: Wait> Caller for LiveCaller<'a, W> {
+    ghost first = { λ caller. caller.number };
+
+    fn first_node(&self) -> u8 {
+        self.number
     }
-    wait_for_others(rt, running);
-    read_counter(&mut client)
+
+    /// Makes the adds, one after the other, or ends at the first fault.
+    ///
+    /// Client 1 then waits for the others to end, and reads the counter. The results are stored.
+    ///
+    /// Rules: Objects 7
+    /// Formats: The command line
+    fn make_calls<P: Port>(&self, client: &mut Client<P>) {
+        let answered = add_to_counter(client, self.calls);
+        let counter = self.read_after_others(client);
+        *self.result.lock(self.rt) = ClientResult { answered, counter };
+    }
+
+    /// Counts the client as ended, so that client 1 doesn't wait for it.
+    fn after_calls(&self) {
+        self.running.fetch_sub(1, Ordering::SeqCst);
+    }
 }
 
 /// Makes `calls` adds, or ends at the first fault.
