@@ -19,6 +19,13 @@ pub struct CommandOutput {
     pub status: u8,
 }
 
+impl CommandOutput {
+    /// Returns whether the exit status is 0, and standard error is empty.
+    pub fn has_ended_well(&self) -> bool {
+        self.status == 0 && self.err.is_empty()
+    }
+}
+
 /// Runs the command line in this text on an input, and returns its output and exit status.
 ///
 /// The words of the line are separated by spaces or line feeds. `totem`, the program's name, isn't among them. A bad
@@ -58,22 +65,14 @@ fn words_in(alloc: Global, line: &[u8]) -> io::Result<Vec<String>> {
         return Err(Error::from(ErrorKind::InvalidData));
     };
     let mut words = Vec::new(alloc);
-    words.push(String::from_str(alloc, "totem")?)?;
     add_words(alloc, text, &mut words)?;
     Ok(words)
 }
 
-/// Adds the words in the lines of a text.
+/// Adds the program's own name, and the words of a text.
 fn add_words(alloc: Global, text: &str, words: &mut Vec<String>) -> io::Result<()> {
-    for line in text.lines() {
-        add_words_of_line(alloc, line, words)?;
-    }
-    Ok(())
-}
-
-/// Adds the words of a line.
-fn add_words_of_line(alloc: Global, line: &str, words: &mut Vec<String>) -> io::Result<()> {
-    for word in line.split(' ') {
+    words.push(String::from_str(alloc, "totem")?)?;
+    for word in text.split_ascii_whitespace() {
         words.push(String::from_str(alloc, word)?)?;
     }
     Ok(())

@@ -23,7 +23,7 @@
 //! Formats: The command line
 
 use crate::command::{CommandOutput, output_of};
-use crate::expected::{is_error_expected, is_output_expected, read};
+use crate::expected::{first_line_and_rest, is_error_expected, is_output_expected, read};
 use crate::hex_lines::decode_hex;
 use crate::kind::{KINDS, Kind};
 use crate::repeated::{fail_silently, print_the_same};
@@ -34,7 +34,7 @@ use std::rt::Files;
 use std::sync::Wait;
 use std::thread::Threads;
 use std::time::Clock;
-use std::{fs, io, str};
+use std::{fs, io};
 
 /// The folder of the examples: the one in which the program runs.
 const FOLDER: &str = ".";
@@ -149,12 +149,9 @@ fn printed_by<R: Files + AllocGlobal + Threads + Wait + Clock + Sync>(
     }
 }
 
-/// Returns the first line of a text, without its end; the whole text if it has one line or isn't UTF-8.
+/// Returns the first line of a text, without its end; the whole text if it has no line feed or isn't UTF-8.
 fn first_line(text: &[u8]) -> &[u8] {
-    let Ok(lines) = str::from_utf8(text) else {
-        return text;
-    };
-    match lines.split_once("\n") {
+    match first_line_and_rest(text) {
         Some((first, _)) => first.as_bytes(),
         None => text,
     }

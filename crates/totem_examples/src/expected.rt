@@ -10,14 +10,13 @@
 use crate::command::CommandOutput;
 use crate::hex_lines::decode_hex;
 use crate::kind::Kind;
-use ring_sweep::BAD_COMMAND_LINE;
 use std::alloc::Global;
-use std::io::{ErrorKind, Write};
+use std::io::ErrorKind;
 use std::rt::Files;
 use std::{fs, io, str};
 
-/// The `.fault` of a bad command line whose message isn't compared.
-const ANY_MESSAGE: &[u8] = b"2 ...";
+/// The message of a `.fault` that isn't compared.
+const ANY_MESSAGE: &str = "...";
 
 /// Returns whether `out` is the expected standard output of an example of this kind and name whose file has the bytes
 /// `input`.
@@ -65,42 +64,40 @@ fn is_hex_of(alloc: Global, text: &[u8], out: &[u8]) -> io::Result<bool> {
 ///
 /// If there is no such file, standard error must be empty and the exit status 0.
 ///
-/// Errors: those of reading `NAME.fault`, or of kind `OutOfMemory` if an allocation fails.
+/// Errors: those of reading `NAME.fault`.
 pub fn is_error_expected<R: Files + AllocGlobal>(
     rt: &R,
     name: &str,
     printed: &CommandOutput,
 ) -> io::Result<bool> {
     let wanted = read_any(rt, name, ".fault")?;
-    if wanted.as_slice() == ANY_MESSAGE {
-        return Ok(printed.status == BAD_COMMAND_LINE && !printed.err.is_empty());
-    }
-    let fault = fault_of(rt.alloc(), printed)?;
-    Ok(fault.as_slice() == wanted.as_slice())
+    Ok(is_fault(wanted.as_slice(), printed))
 }
 
-/// Returns the text of a `.fault` for this output: empty if standard error is empty and the exit status is 0.
-fn fault_of(alloc: Global, printed: &CommandOutput) -> io::Result<Vec<u8>> {
-    let mut fault = Vec::new(alloc);
-    if printed.status != 0 || !printed.err.is_empty() {
-        write_fault(printed, &mut fault)?;
+/// Returns whether a `.fault` with these bytes has the exit status and the standard error. It is empty if there is none.
+fn is_fault(wanted: &[u8], printed: &CommandOutput) -> bool {
+    match str::from_utf8(wanted).unwrap_or("").split_once(" ") {
+        Some((status, message)) => {
+            is_number(status, printed.status) && is_message(message, printed.err.as_slice())
+        }
+        None => wanted.is_empty() && printed.has_ended_well(),
     }
-    Ok(fault)
 }
 
-/// Adds the exit status, a space, and standard error.
-fn write_fault(printed: &CommandOutput, fault: &mut Vec<u8>) -> io::Result<()> {
-    write!(fault, "{} ", printed.status)?;
-    fault.write_all(printed.err.as_slice())
+/// Returns whether a text is this number.
+fn is_number(text: &str, number: u8) -> bool {
+    matches!(text.parse::<u8>(), Ok(parsed) if parsed == number)
+}
+
+/// Returns whether the standard error is this message. `...` stands for any.
+fn is_message(message: &str, err: &[u8]) -> bool {
+    message.as_bytes() == err || message == ANY_MESSAGE && !err.is_empty()
 }
 
 /// Returns whether each claim in the lines of a text, but for its first line, is true of an output. There is one at
 /// least.
 fn meets_claims(text: &[u8], out: &[u8]) -> bool {
-    let (Ok(text), Ok(out)) = (str::from_utf8(text), str::from_utf8(out)) else {
-        return false;
-    };
-    let Some((_, claims)) = text.split_once("\n") else {
+    let (Some((_, claims)), Ok(out)) = (first_line_and_rest(text), str::from_utf8(out)) else {
         return false;
     };
     let mut are_true = !claims.is_empty();
@@ -108,6 +105,15 @@ fn meets_claims(text: &[u8], out: &[u8]) -> bool {
         are_true = are_true && is_true(claim, out);
     }
     are_true
+}
+
+/// Returns the first line of a text, without its end, and the lines below it. Returns `None` if the text has no line
+/// feed or isn't UTF-8.
+pub fn first_line_and_rest(text: &[u8]) -> Option<(&str, &str)> {
+    match str::from_utf8(text) {
+        Ok(text) => text.split_once("\n"),
+        Err(_) => None,
+    }
 }
 
 /// Returns whether a claim is true of an output.

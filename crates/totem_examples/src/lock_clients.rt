@@ -118,11 +118,11 @@ fn cut_off<O: Object>(shared: &SharedNetwork<O>, group: Fixed, node: u8) -> Resu
 }
 
 /// Makes the calls and returns their replies.
-fn call_all<O: Object>(
+fn call_all<O: Object, P: Port>(
     shared: &SharedNetwork<O>,
     group: Fixed,
-    one: &mut Client<WorldPort<O>>,
-    two: &mut Client<WorldPort<O>>,
+    one: &mut Client<P>,
+    two: &mut Client<P>,
 ) -> Result<LockSummary, Fault> {
     let acquired = ask(one, LockOperation::Acquire(7, 11))?;
     let refused = ask(two, LockOperation::Acquire(7, 22))?;

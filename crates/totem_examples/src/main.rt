@@ -2,13 +2,11 @@
 //! output.
 //!
 //! - `counter` drives a node from a user's program.
-//! - `client` has a client of three nodes, the first of which is cut off. `outage` has one that asks until it is
-//!   answered, while nodes stop.
+//! - `outage` has a client of three nodes that asks until it is answered, while nodes are cut off and stop.
 //! - `locks` is a user-defined object, a lock table. `lock_clients` has two clients of it, and `lock_threads` runs it
 //!   on threads.
 //! - `lock_tools` is the lock table's own program, with the commands of `totem` and the words of `lock_vocabulary`. It
 //!   runs where the command line has words.
-//! - `threads` has nodes and clients on threads, and a counter.
 //! - `terminal` shows which commands say how long they took.
 //! - `commands_agree` compares what commands report of the same scripts.
 //! - `data` runs what the program `totem` runs: scripts, sweeps, listings of frames, records, command lines. `command`
@@ -16,7 +14,6 @@
 //!   bytes.
 #![tactic(auto)]
 
-mod client;
 mod command;
 mod commands_agree;
 mod counter;
@@ -33,7 +30,6 @@ mod locks;
 mod outage;
 mod repeated;
 mod terminal;
-mod threads;
 
 use std::io::{self, Eprint, Input};
 use std::process::ExitCode;
@@ -76,12 +72,10 @@ fn print_all_results<R: Files + AllocGlobal + Print + Threads + Wait + Clock + S
     rt: &R,
 ) -> io::Result<bool> {
     counter::print_results(rt)?;
-    client::print_results(rt)?;
     outage::print_results(rt)?;
     lock_clients::print_results(rt)?;
     lock_tools::print_results(rt)?;
     lock_threads::print_results(rt)?;
-    threads::print_results(rt)?;
     terminal::print_results(rt)?;
     commands_agree::print_results(rt)?;
     data::run_all(rt)

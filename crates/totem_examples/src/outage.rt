@@ -10,12 +10,16 @@
 //!   and its call stays open. Then all hear each other, node 1 misses its token, and the client tries the call again.
 //!   All these tries have one number, so the counter that is read in the end is at 3.
 
-use crate::client::{client_of, count_of, cut_network};
+use std::cell::RefCell;
 use std::io;
+use std::rc::Rc;
 use totem_ring::{
-    Client, Counters, Event, Fault, Fixed, Kind, Object, Operation, Port, Proc, ProcSet,
-    SharedNetwork, WorldPort,
+    Client, Counters, Event, Fault, Fixed, Kind, Network, Object, Operation, Port, Proc, ProcSet,
+    Reply, ReplyParts, SharedNetwork, World, WorldPort,
 };
+
+/// The most polls of a node for one call.
+const POLLS: u64 = 200;
 
 /// The number of times that a call without an answer is tried again.
 const TRIES: u64 = 2;
@@ -62,6 +66,51 @@ fn print_summary<R: Print>(rt: &R, summary: &OutageSummary) -> io::Result<()> {
     )
 }
 
+/// Returns a network of the nodes `fixed` at their opening, in which the node `alone` hears nobody.
+///
+/// All other nodes hear each other.
+fn cut_network<O: Object>(
+    alloc: O::Alloc,
+    fixed: Fixed,
+    alone: Proc,
+) -> Result<SharedNetwork<O>, Fault> {
+    let mut network = Network::new(World::<O>::new(alloc, fixed)?);
+    network.cut(fixed.everybody().without_members(ProcSet::singleton(alone)));
+    Ok(Rc::new(alloc, RefCell::new(network))?)
+}
+
+/// Adds a port to this node.
+fn add_port<O: Object>(
+    shared: &SharedNetwork<O>,
+    node: Proc,
+    ports: &mut Vec<WorldPort<O>, O::Alloc>,
+) -> Result<(), Fault> {
+    Ok(ports.push(WorldPort::new(shared.clone()?, node))?)
+}
+
+/// Adds a port to each of these two nodes.
+fn add_ports<O: Object>(
+    shared: &SharedNetwork<O>,
+    first: Proc,
+    second: Proc,
+    ports: &mut Vec<WorldPort<O>, O::Alloc>,
+) -> Result<(), Fault> {
+    add_port(shared, first, ports)?;
+    add_port(shared, second, ports)
+}
+
+/// Returns client 7, with a port to each of two nodes, in the order in which it tries them.
+fn client_of<O: Object>(
+    alloc: O::Alloc,
+    shared: &SharedNetwork<O>,
+    first: Proc,
+    second: Proc,
+) -> Result<Client<WorldPort<O>>, Fault> {
+    let mut ports = Vec::new(alloc);
+    add_ports(shared, first, second, &mut ports)?;
+    Ok(Client::new(alloc, 7, ports, POLLS))
+}
+
 /// Lets only these nodes hear each other from now on.
 fn cut<O: Object>(shared: &SharedNetwork<O>, nodes: ProcSet) -> Result<(), Fault> {
     let Ok(mut network) = shared.try_borrow_mut() else {
@@ -87,6 +136,19 @@ fn stop<O: Object>(shared: &SharedNetwork<O>, node: Proc) -> Result<(), Fault> {
     network.run_event(Event::Stop(node))
 }
 
+/// Returns the count in a counter's reply, or 0 if it has none.
+fn count_of(reply: &Reply) -> u64 {
+    match ReplyParts::read(reply.as_slice()) {
+        Some(
+            ReplyParts {
+                value: Some(count),
+                ..
+            },
+        ) => count,
+        _ => 0,
+    }
+}
+
 /// Calls with this operation until it is answered. Returns the count in the reply.
 fn ask<P: Port>(client: &mut Client<P>, operation: &Operation) -> Result<u64, Fault> {
     let reply = client.until_answered(operation.as_slice(), TRIES)?;
@@ -101,8 +163,8 @@ fn again<P: Port>(client: &mut Client<P>) -> Result<u64, Fault> {
 
 /// Makes the calls, and changes the network between them. At first the node `alone` hears nobody; the node `stopping`
 /// stops.
-fn story_of<O: Object>(
-    client: &mut Client<WorldPort<O>>,
+fn story_of<O: Object, P: Port>(
+    client: &mut Client<P>,
     shared: &SharedNetwork<O>,
     fixed: Fixed,
     alone: Proc,

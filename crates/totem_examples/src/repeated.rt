@@ -7,11 +7,11 @@
 //!
 //! Formats: The command line
 
-use crate::command::{CommandOutput, output_of, run_line};
+use crate::command::{output_of, run_line};
+use crate::expected::first_line_and_rest;
 use ring_sweep::FAILED;
 use std::io::{self, Error, ErrorKind, Write};
 use std::rt::Files;
-use std::str;
 use std::sync::Wait;
 use std::thread::Threads;
 use std::time::Clock;
@@ -23,16 +23,32 @@ pub fn print_the_same<R: Files + AllocGlobal + Threads + Wait + Clock + Sync>(
     rt: &R,
     text: &[u8],
 ) -> bool {
-    let Ok(text) = str::from_utf8(text) else {
-        return false;
-    };
-    let Some((first, others)) = text.split_once("\n") else {
-        return false;
-    };
+    match first_line_and_rest(text) {
+        Some((first, others)) => print_alike(rt, first, others),
+        None => false,
+    }
+}
+
+/// Returns whether a command line prints what those in the lines of `others` print.
+fn print_alike<R: Files + AllocGlobal + Threads + Wait + Clock + Sync>(
+    rt: &R,
+    first: &str,
+    others: &str,
+) -> bool {
     let wanted = output_of(rt, first.as_bytes(), &[]);
-    let mut are_same = ended_well(&wanted) && !wanted.out.is_empty() && !others.is_empty();
-    for line in others.lines() {
-        are_same = are_same && prints(rt, line, wanted.out.as_slice());
+    let has_others = !wanted.out.is_empty() && !others.is_empty();
+    wanted.has_ended_well() && has_others && all_print(rt, others, wanted.out.as_slice())
+}
+
+/// Returns whether the command lines in these lines all print this, and end well.
+fn all_print<R: Files + AllocGlobal + Threads + Wait + Clock + Sync>(
+    rt: &R,
+    lines: &str,
+    wanted: &[u8],
+) -> bool {
+    let mut are_same = true;
+    for line in lines.lines() {
+        are_same = are_same && prints(rt, line, wanted);
     }
     are_same
 }
@@ -44,12 +60,7 @@ fn prints<R: Files + AllocGlobal + Threads + Wait + Clock + Sync>(
     wanted: &[u8],
 ) -> bool {
     let printed = output_of(rt, line.as_bytes(), &[]);
-    ended_well(&printed) && printed.out.as_slice() == wanted
-}
-
-/// Returns whether the exit status is 0, and standard error is empty.
-fn ended_well(printed: &CommandOutput) -> bool {
-    printed.status == 0 && printed.err.is_empty()
+    printed.has_ended_well() && printed.out.as_slice() == wanted
 }
 
 /// Returns whether a command line fails, and writes nothing on standard error, whenever standard output takes less than
@@ -61,16 +72,32 @@ pub fn fail_silently<R: Files + AllocGlobal + Threads + Wait + Clock + Sync>(
     rt: &R,
     text: &[u8],
 ) -> bool {
-    let Ok(text) = str::from_utf8(text) else {
-        return false;
-    };
-    let Some((line, rooms)) = text.split_once("\n") else {
-        return false;
-    };
+    match first_line_and_rest(text) {
+        Some((line, rooms)) => are_silent(rt, line, rooms),
+        None => false,
+    }
+}
+
+/// Returns whether a command line does so for the numbers in the lines of `rooms`.
+fn are_silent<R: Files + AllocGlobal + Threads + Wait + Clock + Sync>(
+    rt: &R,
+    line: &str,
+    rooms: &str,
+) -> bool {
     let whole = output_of(rt, line.as_bytes(), &[]);
-    let mut are_silent = ended_well(&whole) && !rooms.is_empty();
+    whole.has_ended_well() && !rooms.is_empty() && are_all_silent(rt, line, rooms, whole.out.len())
+}
+
+/// Returns whether a command line that writes `whole` bytes does so for all these numbers.
+fn are_all_silent<R: Files + AllocGlobal + Threads + Wait + Clock + Sync>(
+    rt: &R,
+    line: &str,
+    rooms: &str,
+    whole: usize,
+) -> bool {
+    let mut are_silent = true;
     for room in rooms.lines() {
-        are_silent = are_silent && is_silent(rt, line, room, whole.out.len());
+        are_silent = are_silent && is_silent(rt, line, room, whole);
     }
     are_silent
 }
