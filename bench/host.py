@@ -44,7 +44,7 @@ LINE = ("host_bench: ring_base ring_payload ring_wire ring_object ring_things ri
         "ring_driver ring_client ring_host_port ring_console crossbeam_queue atomic_table bytes\n")
 # Nodes, calls in flight a client, calls a client: few enough for a book of 262,144 lines.
 CASES = [(3, 1, 2_000), (16, 1, 100), (3, 64, 20_000), (16, 64, 2_000)]
-IDLE_NODES, IDLE_MILLIS = 3, 10_000
+IDLE_NODES, IDLE_MILLIS = 3, 60_000
 SOAK_SECONDS = 60
 SETTLE_HOSTS, SETTLE_WANTED, SETTLE_SECONDS = 40, 39, 120
 # The gate, the program's word for it, and the most lines and seconds of a host that settles.

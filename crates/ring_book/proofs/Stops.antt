@@ -1,19 +1,15 @@
 -- The cases in which a node's step is refused.
-use Rattle.std.proofs.Common.{◌≡◌, Bool, true, false, refl}
+use Rattle.std.proofs.Common.{◌≡◌, Bool, true, false, refl, sym, subst}
 use Rattle.std.specs.Prelude.{if◌then◌else◌, Option, MatchOption}
 use Rattle.ring_book.specs.Cells.{IsRefusal}
 use Rattle.ring_base.specs.declared.fault.Fault.{Fault}
 use Rattle.ring_base.specs.declared.fault.Fault.TheVariants.{Memory, Stopped as StoppedFault}
 
--- memory is refused only to a running node
-pub memory_runs : (b : Bool) → Memory ≡ (if b then StoppedFault else Memory) → b ≡ false
-memory_runs true h = absurd cc
-memory_runs false h = refl
-
--- any other refusal means that the node has stopped
-pub other_stopped : (b : Bool) (fault : Fault) → fault ≡ (if b then StoppedFault else Memory) → (fault ≡ Memory → ⊥) → (b ≡ true) × (fault ≡ StoppedFault)
-other_stopped true fault h apart = (refl, h)
-other_stopped false fault h apart = absurd (apart h)
+-- a fact of either fault with which a node refuses a step: it has stopped, or memory was refused to it while it ran
+pub by_refusal : (P : Fault → Type 0) (b : Bool) (fault : Fault) → fault ≡ (if b then StoppedFault else Memory) → (b ≡ true → P StoppedFault)
+    → (b ≡ false → P Memory) → P fault
+by_refusal P true fault h stopped memory = subst P (sym h) (stopped refl)
+by_refusal P false fault h stopped memory = subst P (sym h) (memory refl)
 
 -- a node refuses where its cell is not a step ahead
 pub node_refuses : (ahead : Bool) (refusal : Option Fault) (fault : Fault) → ahead ≡ false → MatchOption refusal

@@ -1,6 +1,7 @@
 pub mod JournalEnds
 pub mod BookViews
 pub mod AnswerIndex
+pub mod Journals
 pub mod Cells
 pub mod Books
 pub mod Entered

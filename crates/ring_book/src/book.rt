@@ -168,7 +168,7 @@ impl<O: Object, K: BookName<O::Alloc>> Book<O, K> {
         // No effect at run time. The proof sees the invariants of the book and of the cell only where the body reads
         // fields.
         let _lines = &self.lines;
-        let _me = cell.me;
+        let _me = cell.writer.me;
     }
 
     /// Returns the number of places used and reserved, 0 to 262,144.
@@ -350,9 +350,9 @@ impl<O: Object, K: BookName<O::Alloc>> Book<O, K> {
         if self.reserved == 0 {
             return Err(Fault::Stranger);
         }
-        let at = cell.me.number() as usize - 1;
+        let at = cell.writer.me.number() as usize - 1;
         let end = &mut self.journal_ends[at];
-        if end.slots_beside(&mut cell.journal) == 0 {
+        if end.slots_beside(&mut cell.writer.journal) == 0 {
             return Err(Fault::Stranger);
         }
         if !is_deliverable(
@@ -363,13 +363,13 @@ impl<O: Object, K: BookName<O::Alloc>> Book<O, K> {
             return Err(Fault::Stranger);
         }
         let step = end.pop_known();
-        cell.journal.slots_beside(end);
+        cell.writer.journal.slots_beside(end);
         self.answer_indexes[at].add_answers(&step);
         let number = self.lines.len() as u32;
         extend_longest_log(&mut self.longest_log_len, &mut self.segments, number, &step);
         self.lines.push_reserved(Line::new(number, step));
         self.reserved -= 1;
-        cell.is_step_unentered = false;
+        cell.writer.is_step_unentered = false;
         Ok(())
     }
 

@@ -2,23 +2,18 @@
 //!
 //! Rules: The book and the threads 13, 14, 18 and 36; Refusals 4 to 6
 
-ghost use Rattle.std.specs.Prelude.{◌≡◌, ◌+◌, ◌≤◌, length, OnErr, MatchResult};
-ghost use Rattle.std.specs.List.{AllByRecursion};
-ghost use Rattle.ring_book_lines.specs.Runs.{LineFits};
-ghost use Rattle.ring_book_lines.specs.StoredSteps.{line_input};
+ghost use Rattle.std.specs.Prelude.{◌≡◌, OnErr, MatchResult};
 ghost use Rattle.ring_book_lines.specs.declared.input.LineInput.TheVariants.{Submitted, Received};
 ghost use Rattle.ring_node_spec.specs.NodeLimits.{InputFits};
 ghost use Rattle.ring_payload.specs.Calls.{CallFits};
 ghost use Rattle.ring_wire.specs.Frames.{FrameFits, encoding_of};
 ghost use Rattle.ring_node_spec.specs.declared.input.Input.TheVariants.{Frame as Comes};
-ghost use Rattle.ring_base.specs.Numbers.{max_frame_bytes};
 
 use crate::book_name::BookName;
-use bytes::BytesMut;
+use crate::journal_writer::JournalWriter;
 use ring_base::{Fault, Proc};
 use ring_book_lines::{
-    FrameRef, LineFrames, LineInput, ReceivedFrame, Step, StepInput, call_fits_snapshot_law,
-    node_fits_law,
+    FrameRef, LineInput, ReceivedFrame, Step, StepInput, call_fits_snapshot_law, node_fits_law,
 };
 use ring_node::{Node, Outs};
 use ring_node_spec::Input;
@@ -26,8 +21,6 @@ use ring_object::Object;
 use ring_payload::Call;
 use ring_session::Ticket;
 use ring_wire::Frame;
-use rtrb::Producer;
-use std::alloc::Allocator;
 use std::marker::{Model, PhantomData};
 
 /// What a node's lock holds: the node, and the sending end of its journal, which has room for one step.
@@ -37,36 +30,28 @@ use std::marker::{Model, PhantomData};
 /// Rules: The book and the threads 12, 13 and 18
 #[derive(Drop)]
 pub struct Cell<O: Object, K: BookName<O::Alloc>> {
-    /// The processor of the node.
-    pub(crate) me: Proc,
-    /// Whether the journal's last step hasn't been entered in the book yet.
-    pub(crate) is_step_unentered: bool,
     /// The node, as its last step or submit left it.
     pub(crate) node: Node<O>,
-    /// The sending end of the node's journal.
-    pub(crate) journal: Producer<Step<O::Alloc>, O::Alloc>,
-    /// The allocator of the steps.
-    pub(crate) alloc: O::Alloc,
-    /// A scratch buffer for encoding a frame.
-    pub(crate) text: BytesMut<O::Alloc>,
+    /// The writer of its journal.
+    pub(crate) writer: JournalWriter<O::Alloc>,
     pub(crate) book_name: PhantomData<K>,
 }
 
 impl<O: Object, K: BookName<O::Alloc>> Model for Cell<O, K> {
-    ghost use Rattle.rtrb.specs.Ring.{sent};
     ghost use Rattle.std.specs.Prelude.{◌+◌, length};
     ghost use Rattle.ring_book_lines.specs.Limits.{NodeFits};
     ghost use Rattle.ring_node_spec.specs.Nodes.{Node as ToldNode};
     ghost use Rattle.ring_book.specs.Cells.{IsCell};
     ghost use Rattle.ring_book_lines.specs.Machines.{node_machine};
     ghost use Rattle.ring_book.specs.BookViews.{CellView};
+    ghost use Rattle.ring_book.specs.Journals.{cell_view};
 
     ghost Value = { CellView (ToldNode O.Alloc) O.Alloc };
 
-    ghost view = { λ c. record { me = c.me; ahead = c.is_step_unentered; node = c.node; journal = sent c.journal } };
+    ghost view = { λ c. cell_view c.writer c.node };
 
-    ghost invariant = { λ c. IsCell (node_machine O.sequential K.name.group) NodeFits K.name c.me c.is_step_unentered c.node
-        c.journal (length c.text.items + c.text.spare) };
+    ghost invariant = { λ c. IsCell (node_machine O.sequential K.name.group) NodeFits K.name c.writer.me c.writer.is_step_unentered c.node
+        c.writer.journal (length c.writer.text.items + c.writer.text.spare) };
 }
 
 impl<O: Object, K: BookName<O::Alloc>> Cell<O, K> {
@@ -82,7 +67,7 @@ impl<O: Object, K: BookName<O::Alloc>> Cell<O, K> {
     pub fn processor(&self) -> Proc
         ensures { result ≡ self.now.me }
     {
-        self.me
+        self.writer.me
     }
 
     /// Returns the cell's node, after its last step or submit, even if that hasn't been entered in the book yet.
@@ -115,7 +100,7 @@ impl<O: Object, K: BookName<O::Alloc>> Cell<O, K> {
         ensures { let m = node_machine O.sequential K.name.group in
             MatchResult result (λ _. HasJournaled m self.old self.new (Received input at)) (StepRefused m self.old self.new input at) }
     {
-        if self.is_step_unentered {
+        if self.writer.is_step_unentered {
             // By name, so that no value is live at the exit.
             drop(input);
             return Err(Fault::Stranger);
@@ -123,37 +108,12 @@ impl<O: Object, K: BookName<O::Alloc>> Cell<O, K> {
         // A law: no effect at run time. The proof takes from it that a step keeps a node, and the frames that it sends,
         // within the limits.
         node_fits_law::<O>();
-        let mut outs = Outs::new(self.alloc);
-        match self.node.step_into(&input, &mut outs) {
-            Ok(()) => {
-                let places = self.node.committed_len() as usize;
-                self.journal.push_reserved(step_with_outputs(
-                    self.alloc,
-                    self.me,
-                    StepInput::Full(LineInput::Received(input, at)),
-                    outs,
-                    places,
-                    &mut self.text,
-                ));
-                self.is_step_unentered = true;
-                Ok(())
-            }
-            Err(fault) => {
-                // By name, so that no value is live at the exit.
-                drop(outs);
-                drop(input);
-                match fault {
-                    Fault::Memory => {
-                        let committed = self.node.committed_len() as usize;
-                        let stop = Step::stop_of_node(self.alloc, self.me, at, committed);
-                        self.journal.push_reserved(stop);
-                        self.is_step_unentered = true;
-                        Err(Fault::Memory)
-                    }
-                    _ => Err(fault),
-                }
-            }
-        }
+        let mut outs = Outs::new(self.writer.alloc);
+        let stepped = self.node.step_into(&input, &mut outs);
+        let step_input = StepInput::Full(LineInput::Received(input, at));
+        let committed = self.node.committed_len() as usize;
+        self.writer
+            .add_step_or_stop(stepped, step_input, at, outs, committed)
     }
 
     /// Runs one step of the node on a received frame, and adds the step to the journal, which keeps only the frame's
@@ -179,39 +139,18 @@ impl<O: Object, K: BookName<O::Alloc>> Cell<O, K> {
         ensures { let m = node_machine O.sequential K.name.group in
             MatchResult result (λ _. HasJournaled m self.old self.new (Received (Comes frame.now) at)) (StepRefused m self.old self.new (Comes frame.now) at) }
     {
-        if self.is_step_unentered {
+        if self.writer.is_step_unentered {
             return Err(Fault::Stranger);
         }
         // A law: no effect at run time. The proof takes from it that a step keeps a node, and the frames that it sends,
         // within the limits.
         node_fits_law::<O>();
-        let mut outs = Outs::new(self.alloc);
-        match self.node.receive_into(frame, &mut outs) {
-            Ok(()) => {
-                let places = self.node.committed_len() as usize;
-                let received_frame = ReceivedFrame::new(frame, bytes);
-                self.journal.push_reserved(step_with_outputs(
-                    self.alloc,
-                    self.me,
-                    StepInput::FrameBytes(received_frame, at),
-                    outs,
-                    places,
-                    &mut self.text,
-                ));
-                self.is_step_unentered = true;
-                Ok(())
-            }
-            Err(fault) => match fault {
-                Fault::Memory => {
-                    let committed = self.node.committed_len() as usize;
-                    let stop = Step::stop_of_node(self.alloc, self.me, at, committed);
-                    self.journal.push_reserved(stop);
-                    self.is_step_unentered = true;
-                    Err(Fault::Memory)
-                }
-                _ => Err(fault),
-            },
-        }
+        let mut outs = Outs::new(self.writer.alloc);
+        let stepped = self.node.receive_into(frame, &mut outs);
+        let frame_input = StepInput::FrameBytes(ReceivedFrame::new(frame, bytes), at);
+        let committed = self.node.committed_len() as usize;
+        self.writer
+            .add_step_or_stop(stepped, frame_input, at, outs, committed)
     }
 
     /// Submits a call at the node, adds the submit to the journal, and returns the ticket.
@@ -232,7 +171,7 @@ impl<O: Object, K: BookName<O::Alloc>> Cell<O, K> {
             (SubmitRefused m self.old) }
         ensures err { OnErr result (self.new ≡ self.old) }
     {
-        if self.is_step_unentered {
+        if self.writer.is_step_unentered {
             return Err(Fault::Stranger);
         }
         // Laws: no effect at run time. The proof takes from them that the node is within the limits, and the call
@@ -241,44 +180,8 @@ impl<O: Object, K: BookName<O::Alloc>> Cell<O, K> {
         call_fits_snapshot_law(&call);
         let ticket = self.node.submit_borrowed(&call)?;
         let places = self.node.committed_len() as usize;
-        self.journal
-            .push_reserved(Step::submit_of(self.alloc, self.me, call, places));
-        self.is_step_unentered = true;
+        let step = Step::submit_of(self.writer.alloc, self.writer.me, call, places);
+        self.writer.add(step);
         Ok(ticket)
     }
-}
-
-/// Returns the step of a node on this input, with these outputs and this committed length.
-///
-/// `text` is a scratch buffer that must have a capacity of at least 8,192 bytes.
-fn step_with_outputs<A: Allocator + Copy + Drop>(
-    alloc: A,
-    me: Proc,
-    input: StepInput<A>,
-    outs: Outs<A>,
-    places: usize,
-    text: &mut BytesMut<A>,
-) -> Step<A>
-    requires input { LineFits (line_input input) }
-    requires sends { AllByRecursion (λ s. FrameFits s.frame) outs.sends.items }
-    requires room { max_frame_bytes ≤ length text.old.items + text.old.spare }
-    ensures step { result ≡ record {
-      node = me;
-      input = line_input input;
-      frames = outs.sends.items;
-      answers = outs.answers.items;
-      calls = outs.committed.items;
-      committed = places;
-    } }
-    ensures room { max_frame_bytes ≤ length text.new.items + text.new.spare }
-{
-    let Outs {
-        sends,
-        answers,
-        committed,
-        dropped: _,
-        restored: _,
-    } = outs;
-    let frames = LineFrames::new(alloc, sends, text);
-    Step::new(me, input, frames, answers, committed, places)
 }

@@ -9,6 +9,7 @@ mod answer_indexes;
 mod book;
 mod book_name;
 mod cell;
+mod journal_writer;
 mod opening;
 
 pub use book::{Book, Place};

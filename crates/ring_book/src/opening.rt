@@ -12,6 +12,7 @@ use crate::answer_indexes::AnswerIndex;
 use crate::book::Book;
 use crate::book_name::BookName;
 use crate::cell::Cell;
+use crate::journal_writer::JournalWriter;
 use bytes::BytesMut;
 use ring_base::{Fault, Fixed, MAX_FRAME_BYTES, Proc};
 use ring_book_lines::{Step, node_fits_law};
@@ -249,12 +250,14 @@ fn next_cell<O: Object, K: BookName<O::Alloc>>(
     // A law: no effect at run time. The proof takes from it that a node is within the limits at its opening.
     node_fits_law::<O>();
     Ok(Cell {
-        me,
-        is_step_unentered: false,
         node,
-        journal,
-        alloc,
-        text,
+        writer: JournalWriter {
+            me,
+            is_step_unentered: false,
+            journal,
+            alloc,
+            text,
+        },
         book_name: PhantomData,
     })
 }

@@ -21,7 +21,7 @@ const QUIET_TOKENS_TO_REST: u64 = 100;
 /// The longest rest, in milliseconds.
 const MAX_REST_MILLIS: u64 = 200;
 
-/// The rest of a node with calls that wait for an answer, in milliseconds.
+/// The rest after a quiet turn of a node with calls that wait for an answer, in milliseconds.
 const SHORT_REST_MILLIS: u64 = 1;
 
 /// A gate under which a host that has nothing to do rests.
@@ -30,9 +30,10 @@ const SHORT_REST_MILLIS: u64 = 1;
 ///
 /// A node *rests* once it has had more than 100 quiet tokens since it last had something to do. It then waits after
 /// each turn that isn't busy: at first for as many milliseconds as there are nodes, and for each further quiet token a
-/// millisecond longer, up to 200. A node with unanswered calls waits for one millisecond: its ring lacks other nodes,
-/// which it has to find. All rests end when a node of the host accepts a submit or is stopped, and when the host is
-/// closed. The nodes then run at full speed until they have been quiet for as long again.
+/// millisecond longer, up to 200. The ring of a node with unanswered calls lacks other nodes, which it has to find, or
+/// has lost its token. Its timeouts must come soon: such a node rests for one millisecond, and not after a turn that
+/// finds nothing. All rests end when a node of the host accepts a submit or is stopped, and when the host is closed.
+/// The nodes then run at full speed until they have been quiet for as long again.
 ///
 /// Timeouts count turns, and an empty turn takes less than a microsecond. A node must not give up others whose threads
 /// wait for a processor, and a thread that yields waits longest on a loaded machine. So a node that finds nothing
@@ -112,6 +113,14 @@ impl QuietCount {
     }
 }
 
+impl<'a, W: Wait, A: Allocator + Copy + Drop> PacedGate<'a, W, A> {
+    /// Rests for at most `millis` milliseconds. `count` is the number of notifications that was read before.
+    fn rest(&self, count: u64, millis: u64) {
+        self.event_count
+            .wait(self.rt, count, Duration::from_millis(millis));
+    }
+}
+
 impl<'a, W: Wait, A: Allocator + Copy + Drop> Gate for PacedGate<'a, W, A> {
     /// Does nothing: this gate holds a thread up only between its turns.
     fn at(&self, _node: Proc, _place: GatePlace) {}
@@ -128,16 +137,13 @@ impl<'a, W: Wait, A: Allocator + Copy + Drop> Gate for PacedGate<'a, W, A> {
         };
         // Read before the wait, so that a submit in between ends the wait at once.
         let count = self.event_count.count();
-        if let Some(millis) = quiet.rest_after(activity, count, self.first_rest_millis) {
-            let most = if inbox.has_waiting_calls() {
-                SHORT_REST_MILLIS
-            } else {
-                millis
-            };
-            self.event_count
-                .wait(self.rt, count, Duration::from_millis(most));
-        } else if activity == TurnActivity::Nothing {
-            inbox.wait_paced(self.rt, node);
+        let is_empty = activity == TurnActivity::Nothing;
+        let has_calls = inbox.has_waiting_calls();
+        match quiet.rest_after(activity, count, self.first_rest_millis) {
+            Some(millis) if !has_calls => self.rest(count, millis),
+            Some(_) if !is_empty => self.rest(count, SHORT_REST_MILLIS),
+            _ if is_empty => inbox.wait_paced(self.rt, node),
+            _ => {}
         }
     }
 

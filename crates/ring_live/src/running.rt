@@ -3,7 +3,7 @@
 //! Rules: The book and the threads 28; Refusals 1
 //! Formats: The command line
 
-ghost use Rattle.std.specs.Prelude.{◌≡◌, ◌-◌, ◌^◌, ◌≤◌, min, true, length, All, IfOk, IfErr};
+ghost use Rattle.std.specs.Prelude.{◌≡◌, ◌-◌, ◌^◌, min, true, length, All, IfOk, IfErr};
 ghost use Rattle.ring_base.specs.declared.fault.Fault.TheVariants.{Memory};
 ghost use Rattle.ring_client_threads.specs.Arguments.{IsNode};
 ghost use Rattle.ring_live.specs.LiveClients.{answered_of, counter_of, live_result_of};

@@ -20,8 +20,8 @@ pub slots_beside-requires : goal.slots_beside-requires
 slots_beside-requires g c =
     let i = c.number.result - 1 in
     let own = own_end c.self.invariant c.cell.invariant c.number.ensures.value c.index_mut-end.ensures.value in
-    pair_at g.K.BookName.name i c.cell.inside.journal c.index_mut-end.result.now
-    (ring_at g.K.BookName.name.rings c.cell.inside.me i _ own.0 c.cell.invariant.ring)
+    pair_at g.K.BookName.name i c.cell.inside.writer.journal c.index_mut-end.result.now
+    (ring_at g.K.BookName.name.rings c.cell.inside.writer.me i _ own.0 c.cell.invariant.ring)
     (c.self.invariant.each i c.index_mut-end.result.now own.1).ring
 
 pub invariant_of-self : goal.invariant_of-self
@@ -36,8 +36,8 @@ invariant_of-self g c =
 pub invariant_of-cell : goal.invariant_of-cell
 invariant_of-cell g c =
     let l = c.slots_beside.ensures.producer in
-    cell_looks (node_machine g.O.Object.sequential g.K.BookName.name.group) g.K.BookName.name c.cell.inside.me
-    c.cell.inside.is_step_unentered c.cell.inside.node c.cell.inside.journal c.slots_beside.new.producer _ c.cell.invariant l.0
+    cell_looks (node_machine g.O.Object.sequential g.K.BookName.name.group) g.K.BookName.name c.cell.inside.writer.me
+    c.cell.inside.writer.is_step_unentered c.cell.inside.node c.cell.inside.writer.journal c.slots_beside.new.producer _ c.cell.invariant l.0
     l.1 l.2
 
 pub returns-then-slots_beside-eq0 : goal.returns-then-slots_beside-eq0
@@ -45,13 +45,13 @@ returns-then-slots_beside-eq0 g c =
     let i = c.number.result - 1 in
     let own = own_end c.self.invariant c.cell.invariant c.number.ensures.value c.index_mut-end.ensures.value in
     let l = c.slots_beside.ensures in
-    let look = looked c.cell.inside.journal c.slots_beside.new.producer c.index_mut-end.result.now c.slots_beside.new.self
+    let look = looked c.cell.inside.writer.journal c.slots_beside.new.producer c.index_mut-end.result.now c.slots_beside.new.self
     c.slots_beside.ensures.looked c.slots_beside.ensures.producer c.slots_beside.ensures.fifo in
     let none : length (known_items c.slots_beside.new.self) ≡ 0 = omega arith in
-    let all = all_entered g.K.BookName.name c.self.inside.lines.items i c.cell.inside.journal
+    let all = all_entered g.K.BookName.name c.self.inside.lines.items i c.cell.inside.writer.journal
     c.slots_beside.new.producer c.index_mut-end.result.now c.slots_beside.new.self
     (c.self.invariant.each i c.index_mut-end.result.now own.1) look none in
-    let entered = subst (λ (k : ℕ). sent c.cell.inside.journal ≡ steps_of k c.self.inside.lines.items) own.0 all in
+    let entered = subst (λ (k : ℕ). sent c.cell.inside.writer.journal ≡ steps_of k c.self.inside.lines.items) own.0 all in
     rw (← c.self.view_is, ← c.cell.view_is) (refl, refl, rw l.producer.1 refl, inr (inl entered))
 
 pub is_deliverable-requires : goal.is_deliverable-requires
@@ -69,8 +69,8 @@ invariant_of-self-then-not-is_deliverable g c =
 pub invariant_of-cell-then-not-is_deliverable : goal.invariant_of-cell-then-not-is_deliverable
 invariant_of-cell-then-not-is_deliverable g c =
     let l = c.slots_beside.ensures.producer in
-    cell_looks (node_machine g.O.Object.sequential g.K.BookName.name.group) g.K.BookName.name c.cell.inside.me
-    c.cell.inside.is_step_unentered c.cell.inside.node c.cell.inside.journal c.slots_beside.new.producer _ c.cell.invariant l.0
+    cell_looks (node_machine g.O.Object.sequential g.K.BookName.name.group) g.K.BookName.name c.cell.inside.writer.me
+    c.cell.inside.writer.is_step_unentered c.cell.inside.node c.cell.inside.writer.journal c.slots_beside.new.producer _ c.cell.invariant l.0
     l.1 l.2
 
 pub returns-then-not-is_deliverable : goal.returns-then-not-is_deliverable
@@ -78,10 +78,10 @@ returns-then-not-is_deliverable g c =
     let i = c.number.result - 1 in
     let own = own_end c.self.invariant c.cell.invariant c.number.ensures.value c.index_mut-end.ensures.value in
     let l = c.slots_beside.ensures in
-    let look = looked c.cell.inside.journal c.slots_beside.new.producer c.index_mut-end.result.now c.slots_beside.new.self
+    let look = looked c.cell.inside.writer.journal c.slots_beside.new.producer c.index_mut-end.result.now c.slots_beside.new.self
     c.slots_beside.ensures.looked c.slots_beside.ensures.producer c.slots_beside.ensures.fifo in
     let x : StepView g.row.O-Alloc.Denot = c.peek_known.result.now in
-    let next = comes g.K.BookName.name c.self.inside.lines.items i c.cell.inside.me c.cell.inside.journal c.slots_beside.new.producer
+    let next = comes g.K.BookName.name c.self.inside.lines.items i c.cell.inside.writer.me c.cell.inside.writer.journal c.slots_beside.new.producer
     c.index_mut-end.result.now c.slots_beside.new.self x own.0 (c.self.invariant.each i c.index_mut-end.result.now own.1) look c.peek_known.ensures in
     let lost : IsDeliverable c.self.inside.lines.items x.node x.input
     → ⊥ = (λ h. let no_way = c.if-not-is_deliverable.ensures.found.1 (rw c.as_slice.ensures.value h) in cc) in
@@ -91,9 +91,9 @@ pub slots_beside-number-requires : goal.slots_beside-number-requires
 slots_beside-number-requires g c =
     let i = c.number.result - 1 in
     let own = own_end c.self.invariant c.cell.invariant c.number.ensures.value c.index_mut-end.ensures.value in
-    pair_stays g.K.BookName.name i c.cell.inside.journal c.slots_beside.new.producer c.index_mut-end.result.now
+    pair_stays g.K.BookName.name i c.cell.inside.writer.journal c.slots_beside.new.producer c.index_mut-end.result.now
     c.slots_beside.new.self c.pop_known-step.new.self
-    (ring_at g.K.BookName.name.rings c.cell.inside.me i _ own.0 c.cell.invariant.ring)
+    (ring_at g.K.BookName.name.rings c.cell.inside.writer.me i _ own.0 c.cell.invariant.ring)
     (c.self.invariant.each i c.index_mut-end.result.now own.1).ring c.slots_beside.ensures.producer.0
     c.slots_beside.ensures.looked.0 c.pop_known-step.ensures.ring
 
@@ -108,11 +108,11 @@ invariant_of-self-2 g c =
     let i = c.number.result - 1 in
     let own = own_end c.self.invariant c.cell.invariant c.number.ensures.value c.index_mut-end.ensures.value in
     let l = c.slots_beside.ensures in
-    let look = looked c.cell.inside.journal c.slots_beside.new.producer c.index_mut-end.result.now c.slots_beside.new.self
+    let look = looked c.cell.inside.writer.journal c.slots_beside.new.producer c.index_mut-end.result.now c.slots_beside.new.self
     c.slots_beside.ensures.looked c.slots_beside.ensures.producer c.slots_beside.ensures.fifo in
     let x : StepView g.row.O-Alloc.Denot = c.pop_known-step.result in
     let pre : IsPrefix (x ∷ []) (known_items c.slots_beside.new.self) = (known_items c.pop_known-step.new.self, sym c.pop_known-step.ensures.received.1) in
-    let next = comes g.K.BookName.name c.self.inside.lines.items i c.cell.inside.me c.cell.inside.journal c.slots_beside.new.producer
+    let next = comes g.K.BookName.name c.self.inside.lines.items i c.cell.inside.writer.me c.cell.inside.writer.journal c.slots_beside.new.producer
     c.index_mut-end.result.now c.slots_beside.new.self x own.0 (c.self.invariant.each i c.index_mut-end.result.now own.1) look pre in
     let pop : Popped c.slots_beside.new.self x c.slots_beside-number.new.consumer =
     popped c.slots_beside.new.self c.pop_known-step.new.self c.slots_beside-number.new.consumer x
@@ -130,8 +130,8 @@ invariant_of-self-2 g c =
     (c.self.inside.reserved - 1) _ _ _ _ _ _ _ _ _
     (book_enters (node_machine g.O.Object.sequential g.K.BookName.name.group)
     g.K.BookName.name c.self.inside.lines.items c.self.inside.reserved c.self.inside.journal_ends.items
-    c.self.inside.answer_indexes.items _ _ _ _ _ i c.cell.inside.me c.cell.inside.is_step_unentered c.cell.inside.node
-    c.cell.inside.journal c.slots_beside.new.producer c.index_mut-end.result.now c.slots_beside.new.self
+    c.self.inside.answer_indexes.items _ _ _ _ _ i c.cell.inside.writer.me c.cell.inside.writer.is_step_unentered c.cell.inside.node
+    c.cell.inside.writer.journal c.slots_beside.new.producer c.index_mut-end.result.now c.slots_beside.new.self
     c.slots_beside-number.new.consumer x
     c.index_mut.result.now c.add_answers.new.self _ own.0 c.self.invariant c.cell.invariant own.1 there c.add_answers.ensures.answers
     c.add_answers.ensures.room c.if-not-is_deliverable.ensures.room look next.last pop found (omega (arith, c.if-self-eq0.false)))
@@ -142,11 +142,11 @@ invariant_of-cell-2 g c =
     let i = c.number.result - 1 in
     let own = own_end c.self.invariant c.cell.invariant c.number.ensures.value c.index_mut-end.ensures.value in
     let l = c.slots_beside.ensures in
-    let look = looked c.cell.inside.journal c.slots_beside.new.producer c.index_mut-end.result.now c.slots_beside.new.self
+    let look = looked c.cell.inside.writer.journal c.slots_beside.new.producer c.index_mut-end.result.now c.slots_beside.new.self
     c.slots_beside.ensures.looked c.slots_beside.ensures.producer c.slots_beside.ensures.fifo in
     let x : StepView g.row.O-Alloc.Denot = c.pop_known-step.result in
     let pre : IsPrefix (x ∷ []) (known_items c.slots_beside.new.self) = (known_items c.pop_known-step.new.self, sym c.pop_known-step.ensures.received.1) in
-    let next = comes g.K.BookName.name c.self.inside.lines.items i c.cell.inside.me c.cell.inside.journal c.slots_beside.new.producer
+    let next = comes g.K.BookName.name c.self.inside.lines.items i c.cell.inside.writer.me c.cell.inside.writer.journal c.slots_beside.new.producer
     c.index_mut-end.result.now c.slots_beside.new.self x own.0 (c.self.invariant.each i c.index_mut-end.result.now own.1) look pre in
     let pop : Popped c.slots_beside.new.self x c.slots_beside-number.new.consumer =
     popped c.slots_beside.new.self c.pop_known-step.new.self c.slots_beside-number.new.consumer x
@@ -154,12 +154,12 @@ invariant_of-cell-2 g c =
     c.slots_beside-number.ensures.consumer.1 in
     let m = c.slots_beside-number.ensures in
     let free : 0 < known_free c.slots_beside-number.new.self =
-    free_again c.cell.inside.journal c.slots_beside.new.producer c.slots_beside-number.new.self
+    free_again c.cell.inside.writer.journal c.slots_beside.new.producer c.slots_beside-number.new.self
     c.index_mut-end.result.now c.slots_beside.new.self c.slots_beside-number.new.consumer x
     c.slots_beside-number.result look next.alone pop m.looked.0 m.looked.1 m.value m.all_free c.cell.invariant.room in
-    cell_enters (node_machine g.O.Object.sequential g.K.BookName.name.group) g.K.BookName.name c.cell.inside.me
-    c.cell.inside.is_step_unentered c.cell.inside.node c.cell.inside.journal c.slots_beside-number.new.self _ c.cell.invariant
-    (writers c.cell.inside.journal c.slots_beside.new.producer c.slots_beside-number.new.self l.producer.0
+    cell_enters (node_machine g.O.Object.sequential g.K.BookName.name.group) g.K.BookName.name c.cell.inside.writer.me
+    c.cell.inside.writer.is_step_unentered c.cell.inside.node c.cell.inside.writer.journal c.slots_beside-number.new.self _ c.cell.invariant
+    (writers c.cell.inside.writer.journal c.slots_beside.new.producer c.slots_beside-number.new.self l.producer.0
     m.looked.0) (m.looked.1 ∙ l.producer.1) free
 
 pub returns : goal.returns
@@ -168,18 +168,18 @@ returns g c =
     let own = own_end c.self.invariant c.cell.invariant c.number.ensures.value c.index_mut-end.ensures.value in
     let l = c.slots_beside.ensures in
     let m = c.slots_beside-number.ensures in
-    let look = looked c.cell.inside.journal c.slots_beside.new.producer c.index_mut-end.result.now c.slots_beside.new.self
+    let look = looked c.cell.inside.writer.journal c.slots_beside.new.producer c.index_mut-end.result.now c.slots_beside.new.self
     c.slots_beside.ensures.looked c.slots_beside.ensures.producer c.slots_beside.ensures.fifo in
     let x : StepView g.row.O-Alloc.Denot = c.pop_known-step.result in
     let y : LineView g.row.O-Alloc.Denot = record { number = length c.self.inside.lines.items; step = x } in
     let pre : IsPrefix (x ∷ []) (known_items c.slots_beside.new.self) = (known_items c.pop_known-step.new.self, sym c.pop_known-step.ensures.received.1) in
-    let next = comes g.K.BookName.name c.self.inside.lines.items i c.cell.inside.me c.cell.inside.journal c.slots_beside.new.producer
+    let next = comes g.K.BookName.name c.self.inside.lines.items i c.cell.inside.writer.me c.cell.inside.writer.journal c.slots_beside.new.producer
     c.index_mut-end.result.now c.slots_beside.new.self x own.0 (c.self.invariant.each i c.index_mut-end.result.now own.1) look pre in
     let found = found_first c.self.inside.lines.items (known_items c.slots_beside.new.self) x c.peek_known.result.now
     c.peek_known.ensures pre (rw c.as_slice.ensures.value at (c.if-not-is_deliverable.ensures.found.0 refl)) in
-    let mine : x.node ≡ c.cell.inside.me = AllOf-last c.cell.inside.me
-    (steps_of c.cell.inside.me c.self.inside.lines.items) x
-    (subst (λ (xs : List (StepView g.row.O-Alloc.Denot)). AllOf c.cell.inside.me xs) next.last c.cell.invariant.mine) in
+    let mine : x.node ≡ c.cell.inside.writer.me = AllOf-last c.cell.inside.writer.me
+    (steps_of c.cell.inside.writer.me c.self.inside.lines.items) x
+    (subst (λ (xs : List (StepView g.row.O-Alloc.Denot)). AllOf c.cell.inside.writer.me xs) next.last c.cell.invariant.mine) in
     let lines : c.push_reserved.new.self.items ≡ c.self.inside.lines.items ++ y ∷ [] =
     rw (c.new.ensures, c.len-number.ensures, c.self.inside.lines.ok.0) at c.push_reserved.ensures.items in
     rw (← c.self.view_is, ← c.cell.view_is) record {
@@ -189,8 +189,8 @@ returns g c =
       lines = lines;
       reserved = omega (arith, c.if-self-eq0.false);
       journal = m.looked.1 ∙ (l.producer.1
-          ∙ (next.last ∙ (sym (steps_of-own c.cell.inside.me c.self.inside.lines.items y mine)
-          ∙ ap (steps_of c.cell.inside.me) (sym lines))));
+          ∙ (next.last ∙ (sym (steps_of-own c.cell.inside.writer.me c.self.inside.lines.items y mine)
+          ∙ ap (steps_of c.cell.inside.writer.me) (sym lines))));
       cell_is = rw (m.looked.1, l.producer.1) refl;
     }
 

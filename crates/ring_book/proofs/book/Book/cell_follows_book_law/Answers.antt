@@ -15,9 +15,9 @@ pub returns-clause-node : goal.returns-clause-node
 returns-clause-node g c = rw (← c.self.view_is, ← c.cell.view_is) (λ entered.
     let group = g.K.BookName.name.group in
     let m = node_machine g.O.Object.sequential group in
-    c.book_run_law.ensures.nodes group c.self.inside.lines.items c.cell.inside.me c.cell.inside.node c.self.invariant.few
+    c.book_run_law.ensures.nodes group c.self.inside.lines.items c.cell.inside.writer.me c.cell.inside.node c.self.invariant.few
     c.cell.invariant.counted c.cell.invariant.in_book c.self.invariant.run
-    (subst (λ (xs : List (StepView g.row.O-Alloc.Denot)). LeadsToState m (m.opening c.cell.inside.me) xs c.cell.inside.node) entered c.cell.invariant.leads))
+    (subst (λ (xs : List (StepView g.row.O-Alloc.Denot)). LeadsToState m (m.opening c.cell.inside.writer.me) xs c.cell.inside.node) entered c.cell.invariant.leads))
 
 pub returns-clause-member : goal.returns-clause-member
 returns-clause-member g c = rw (← c.cell.view_is) (c.cell.invariant.counted, c.cell.invariant.in_book)
@@ -28,7 +28,7 @@ returns-clause-prefix g c = rw (← c.self.view_is, ← c.cell.view_is) (
     let group = g.K.BookName.name.group in
     let lines = c.self.inside.lines.items in
     let events = events_of lines in
-    let me = c.cell.inside.me in
+    let me = c.cell.inside.writer.me in
     let done = c.book_run_law.ensures.runs group lines c.self.invariant.few c.self.invariant.run in
     subst (λ calls. IsListPrefix (deduplicated calls) (order (run object (world_opening group) events)))
     (done.committed me c.cell.invariant.counted c.cell.invariant.in_book)
@@ -42,7 +42,7 @@ returns-clause-follows g c = rw (← c.self.view_is, ← c.cell.view_is) (λ ent
     let lines = c.self.inside.lines.items in
     let events = events_of lines in
     let w = run object (world_opening group) events in
-    let me = c.cell.inside.me in
+    let me = c.cell.inside.writer.me in
     let done = c.book_run_law.ensures.runs group lines c.self.invariant.few c.self.invariant.run in
     let law = c.linear_law.ensures.follows group events me c.self.invariant.few done.keep c.cell.invariant.counted c.cell.invariant.in_book in
     let by_lines = subst (λ calls. HasCommittedPlaces object (w.nodes me) calls × FollowsOrder object (w.nodes me) calls (order w))

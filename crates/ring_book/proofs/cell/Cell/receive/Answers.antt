@@ -1,125 +1,42 @@
-use Rattle.std.proofs.Common.{◌≡◌, ◌+◌, refl, subst, sym, ap, ◌∙◌, length}
-use Rattle.rtrb.specs.Ring.{sent}
-use Rattle.ring_book_lines.specs.Limits.{NodeFits}
-use Rattle.ring_node_spec.specs.declared.input.Input.TheVariants.{Frame as Comes, Stop}
+-- A step of the node on a received frame, from the result of the node's own call.
+use Rattle.std.proofs.Common.{refl, ap}
+use Rattle.ring_base.proofs.Results.{on-ok}
 use Rattle.ring_book_lines.specs.declared.input.LineInput.TheVariants.{Received}
-use Rattle.ring_node_spec.specs.Nodes.{Node}
-use Rattle.ring_book.specs.Cells.{IsCell}
-use Rattle.ring_book_lines.specs.Machines.{node_machine}
-use Rattle.ring_book_lines.specs.Runs.{IsStep}
-use Rattle.ring_book.specs.BookViews.{CellView}
-use Rattle.ring_book.proofs.Journaling.{cell_adds}
+use Rattle.ring_node_spec.specs.declared.input.Input.TheVariants.{Frame as Comes}
+use Rattle.ring_book.proofs.CellSteps.{stepped_on, cell_after, returned_after}
 use Rattle.ring_book.proofs.NodeFrameLimits.{node_sound}
-use Rattle.ring_book.proofs.Stops.{memory_runs, other_stopped}
-use Rattle.ring_node_spec.proofs.NodeChanges.{stopped_same}
 use Rattle.ring_book.proofs.cell.Cell.receive.Goals as goal
 
-pub step_with_outputs-requires : goal.step_with_outputs-requires
-step_with_outputs-requires g c = record {
-  input = rw c.new-received_frame.ensures c.requires.fits;
-  sends = rw c.in-Ok.ensures.sends (c.node_fits_law.ensures.sends c.self.inside.node (Comes c.args.frame.now) c.self.invariant.sound c.requires.fits);
-  room = c.self.invariant.text;
-}
+pub add_step_or_stop-requires-clause-sends : goal.add_step_or_stop-requires-clause-sends
+add_step_or_stop-requires-clause-sends g c =
+    on-ok c.receive_into-stepped.result _ _
+    (λ e. rw e (c.node_fits_law.ensures.sends c.self.inside.node (Comes c.args.frame.now) c.self.invariant.sound c.requires.fits))
+    c.receive_into-stepped.ensures.sends
 
-pub push_reserved-requires : goal.push_reserved-requires
-push_reserved-requires g c = (c.self.invariant.free c.if-self.false, tt)
+pub add_step_or_stop-requires-clause-free : goal.add_step_or_stop-requires-clause-free
+add_step_or_stop-requires-clause-free g c = c.self.invariant.free c.if-self.false
 
 pub invariant_of-self : goal.invariant_of-self
 invariant_of-self g c =
-    let m = node_machine g.O.Object.sequential g.K.BookName.name.group in
-    let e = c.in-Ok.ensures in
-    let l = c.step_with_outputs.result in
-    let stepped : IsStep m c.self.inside.node l c.receive_into.new.self = rw (c.step_with_outputs.ensures.step, c.new-received_frame.ensures) record {
-      fits = c.requires.fits;
-      makes = (e.runs, e.ok, e.sends, e.answers, e.committed);
-      committed = c.committed_len-places.ensures;
-    } in
-    cell_adds m NodeFits g.K.BookName.name c.self.inside.me _ c.self.inside.node c.receive_into.new.self
-    c.self.inside.journal c.push_reserved.new.self _ _ l c.self.invariant (ap (λ x. x.node) c.step_with_outputs.ensures.step) stepped
-    (node_sound g.O.Object.sequential g.K.BookName.name.group c.node_fits_law.ensures.step c.node_fits_law.ensures.submit
-    c.self.inside.node l c.receive_into.new.self c.self.invariant.sound stepped) c.step_with_outputs.ensures.room c.push_reserved.ensures.ring
-    c.push_reserved.ensures.sent.0
-
-pub returns-in-Ok : goal.returns-in-Ok
-returns-in-Ok g c =
-    let m = node_machine g.O.Object.sequential g.K.BookName.name.group in
-    let e = c.in-Ok.ensures in
-    let l = c.step_with_outputs.result in
-    let stepped : IsStep m c.self.inside.node l c.receive_into.new.self = rw (c.step_with_outputs.ensures.step, c.new-received_frame.ensures) record {
-      fits = c.requires.fits;
-      makes = (e.runs, e.ok, e.sends, e.answers, e.committed);
-      committed = c.committed_len-places.ensures;
-    } in
-    rw (← c.self.view_is) record {
-      step = l;
-      step_node = ap (λ x. x.node) c.step_with_outputs.ensures.step;
-      step_input = ap (λ x. x.input) c.step_with_outputs.ensures.step ∙ ap (λ f. Received (Comes f) c.args.at) c.new-received_frame.ensures;
-      stepped = stepped;
-      journal = c.push_reserved.ensures.sent.0;
-      was = c.if-self.false;
-      ahead = refl;
-      me = refl;
-    }
-
-pub invariant_of-self-in-Memory : goal.invariant_of-self-in-Memory
-invariant_of-self-in-Memory g c =
-    let m = node_machine g.O.Object.sequential g.K.BookName.name.group in
-    let l = c.stop_of_node-stop.result in
-    let e = c.in-Err.ensures in
-    let stepped : IsStep m c.self.inside.node l c.receive_into.new.self = rw c.stop_of_node-stop.ensures record {
-      fits = tt;
-      makes = (memory_runs _ (sym c.in-Memory.is ∙ e.refused), e.err, refl, refl, refl);
-      committed = c.committed_len-committed.ensures;
-    } in
-    cell_adds m NodeFits g.K.BookName.name c.self.inside.me _ c.self.inside.node c.receive_into.new.self
-    c.self.inside.journal c.push_reserved-in-Memory.new.self _ _ l c.self.invariant (ap (λ x. x.node) c.stop_of_node-stop.ensures) stepped
-    (node_sound g.O.Object.sequential g.K.BookName.name.group c.node_fits_law.ensures.step c.node_fits_law.ensures.submit
-    c.self.inside.node l c.receive_into.new.self c.self.invariant.sound stepped) c.self.invariant.text c.push_reserved-in-Memory.ensures.ring
-    c.push_reserved-in-Memory.ensures.sent.0
-
-pub returns-in-Memory : goal.returns-in-Memory
-returns-in-Memory g c =
-    let m = node_machine g.O.Object.sequential g.K.BookName.name.group in
-    let l = c.stop_of_node-stop.result in
-    let e = c.in-Err.ensures in
-    let stepped : IsStep m c.self.inside.node l c.receive_into.new.self = rw c.stop_of_node-stop.ensures record {
-      fits = tt;
-      makes = (memory_runs _ (sym c.in-Memory.is ∙ e.refused), e.err, refl, refl, refl);
-      committed = c.committed_len-committed.ensures;
-    } in
-    let no_stop : Comes c.args.frame.now ≡ Stop → ⊥ = λ is. absurd (cc is) in
-    rw (← c.self.view_is) (
-      no_stop,
-      record {
-        step = l;
-        step_node = ap (λ x. x.node) c.stop_of_node-stop.ensures;
-        step_input = ap (λ x. x.input) c.stop_of_node-stop.ensures;
-        stepped = stepped;
-        journal = c.push_reserved-in-Memory.ensures.sent.0;
-        was = c.if-self.false;
-        ahead = refl;
-        me = refl;
-      },
-    )
-
-pub invariant_of-self-in_default : goal.invariant_of-self-in_default
-invariant_of-self-in_default g c =
-    let m = node_machine g.O.Object.sequential g.K.BookName.name.group in
-    let e = c.in-Err.ensures in
-    let other = other_stopped _ c.in-Err.fault e.refused c.in_default.not-Memory in
-    let same = e.err ∙ stopped_same c.self.inside.node other.0 in
-    subst (λ (s : Node g.row.O-Alloc.Denot). IsCell m NodeFits g.K.BookName.name c.self.inside.me c.self.inside.is_step_unentered
-    s c.self.inside.journal (length c.self.inside.text.items + c.self.inside.text.spare)) (sym same) c.self.invariant
+    let object = g.O.Object.sequential in
+    let group = g.K.BookName.name.group in
+    let e = c.receive_into-stepped.ensures in
+    cell_after object group g.K.BookName.name c.receive_into-stepped.result c.self.inside.writer c.add_step_or_stop.new.self
+    c.self.inside.node c.receive_into-stepped.new.self _ c.args.at c.self.invariant refl
+    (stepped_on object group c.receive_into-stepped.result c.self.inside.node c.receive_into-stepped.new.self (Comes c.args.frame.now) c.args.at _
+    c.requires.fits (ap (λ f. Received (Comes f) c.args.at) c.new.ensures) c.committed_len-committed.ensures e.runs e.ok e.sends e.answers e.committed e.err e.refused)
+    c.add_step_or_stop.ensures.added c.add_step_or_stop.ensures.room
+    (λ l stepped. node_sound object group c.node_fits_law.ensures.step c.node_fits_law.ensures.submit
+    c.self.inside.node l c.receive_into-stepped.new.self c.self.invariant.sound stepped)
 
 pub returns : goal.returns
 returns g c =
-    let other = other_stopped _ c.in-Err.fault c.in-Err.ensures.refused c.in_default.not-Memory in
-    let same = c.in-Err.ensures.err ∙ stopped_same c.self.inside.node other.0 in
-    let seen : Node g.row.O-Alloc.Denot → CellView (Node g.row.O-Alloc.Denot) g.row.O-Alloc.Denot =
-    λ s. record {
-      me = c.self.inside.me;
-      ahead = c.self.inside.is_step_unentered;
-      node = s;
-      journal = sent c.self.inside.journal;
-    } in
-    rw (other.1, ← c.self.view_is) (c.if-self.false, other.0, ap seen same)
+    let object = g.O.Object.sequential in
+    let group = g.K.BookName.name.group in
+    let e = c.receive_into-stepped.ensures in
+    let by = ap (λ f. Received (Comes f) c.args.at) c.new.ensures in
+    rw (c.add_step_or_stop.ensures.same, ← c.self.view_is) (returned_after object group c.receive_into-stepped.result c.self.inside.writer c.add_step_or_stop.new.self
+    c.self.inside.node c.receive_into-stepped.new.self _ (Comes c.args.frame.now) c.args.at c.if-self.false refl by
+    (stepped_on object group c.receive_into-stepped.result c.self.inside.node c.receive_into-stepped.new.self (Comes c.args.frame.now) c.args.at _
+    c.requires.fits by c.committed_len-committed.ensures e.runs e.ok e.sends e.answers e.committed e.err e.refused)
+    c.add_step_or_stop.ensures.added (λ is. absurd (cc is)))
