@@ -19,8 +19,8 @@ struct peer_counts peer_counts;
 static unsigned char key[HASH], group_hash[GROUP_BYTES];
 static size_t hash_bytes; /* HASH with a key, or 0 */
 static struct {
-    uint64_t receivers;
-    size_t length; /* of the head and the frames; 0 where there is none */
+    uint64_t receivers, others; /* who gets it all, and who gets only its first `others_length` bytes */
+    size_t length, others_length; /* of the head and the frames; 0 where there is none */
     unsigned char bytes[DATAGRAM_BYTES];
 } unsent;
 
@@ -52,10 +52,18 @@ int open_peers(void) {
     return open_socket();
 }
 
-static void send_unsent(uint64_t receivers) {
-    if (hash_bytes > 0) hash_datagram(unsent.bytes + unsent.length, unsent.bytes, unsent.length);
-    send_datagram(receivers, unsent.bytes, unsent.length + hash_bytes);
+static void queue_datagram(uint64_t receivers, size_t length) {
+    if (hash_bytes > 0) hash_datagram(unsent.bytes + length, unsent.bytes, length);
+    send_datagram(receivers, unsent.bytes, length + hash_bytes);
     peer_counts.sent += (uint64_t)__builtin_popcountll(receivers);
+}
+
+/* A token goes to one of the receivers of the frames before it, and all wait for it. So its datagram goes first. */
+static void send_unsent(void) {
+    if (unsent.length > 0) queue_datagram(unsent.receivers, unsent.length);
+    if (unsent.others) queue_datagram(unsent.others, unsent.others_length);
+    unsent.length = 0;
+    unsent.others = 0;
 }
 
 static void begin_datagram(uint64_t receivers) {
@@ -68,21 +76,21 @@ static void begin_datagram(uint64_t receivers) {
 
 /* Where the frame's receivers are some of those that have frames coming, only these get it with them. */
 void send_frame(uint64_t receivers, const unsigned char *frame, size_t length) {
-    uint64_t others = unsent.receivers & ~receivers;
-    if (unsent.length > 0 && ((receivers & ~unsent.receivers) || unsent.length - HEAD + length > TOGETHER)) {
-        send_unsent(unsent.receivers);
-        unsent.length = 0;
-    }
+    uint64_t more = receivers & ~unsent.receivers, others = unsent.receivers & ~receivers;
+    int is_apart = more || (others && unsent.others) || unsent.length - HEAD + length > TOGETHER;
+    if (unsent.length > 0 && is_apart) send_unsent();
     if (unsent.length == 0) begin_datagram(receivers);
-    else if (others) send_unsent(others);
+    else if (others) {
+        unsent.others = others;
+        unsent.others_length = unsent.length;
+    }
     unsent.receivers = receivers;
     memcpy(unsent.bytes + unsent.length, frame, length);
     unsent.length += length;
 }
 
 void flush_frames(void) {
-    if (unsent.length > 0) send_unsent(unsent.receivers);
-    unsent.length = 0;
+    send_unsent();
     flush_datagrams();
 }
 
