@@ -116,7 +116,9 @@ def candidates(tries: list[Try], done: int) -> list[int]:
     """The tries that may come next: those that began before the end of each that is left. Of tries without an answer that do the
     same only the first is one."""
     least_end, found, others = inf, [], set()
-    for i, tried in enumerate(tries):
+    first_left = (~done & (done + 1)).bit_length() - 1
+    for i in range(first_left, len(tries)):
+        tried = tries[i]
         if tried.begin > least_end:
             break
         same = (tried.operation, tried.values)
