@@ -129,11 +129,20 @@ pub(crate) fn turn_report(done: Option<StepReport>) -> Turn
 
 impl<C, B, A: Allocator + Copy + Drop> HostOf<C, B, A> {
     /// Ends a turn of the node that finds nothing: the thread waits, unless the gate has waits of its own.
-    fn wait_after_empty_turn<W: Wait, G: Gate>(&self, rt: &W, node: Proc, gate: &G) {
-        if let Some(inbox) = self.inboxes.get(node.number() as usize - 1)
-            && !gate.has_own_waits()
-        {
-            inbox.wait_at_full_speed(rt, node);
+    ///
+    /// `turns_to_consensus` is the number of turns until the node's consensus timeout is due.
+    fn wait_after_empty_turn<W: Wait, G: Gate>(
+        &self,
+        rt: &W,
+        node: Proc,
+        turns_to_consensus: u16,
+        gate: &G,
+    ) {
+        if let Some(inbox) = self.inboxes.get(node.number() as usize - 1) {
+            inbox.note_turns_to_consensus(turns_to_consensus);
+            if !gate.has_own_waits() {
+                inbox.wait_at_full_speed(rt, node);
+            }
         }
         gate.after_turn(node, TurnActivity::Nothing);
     }
@@ -260,7 +269,7 @@ impl<O: Object, K: BookName<O::Alloc>> HostOf<Cell<O, K>, Book<O, K>, O::Alloc> 
                 Ok(Some(done))
             }
             None => {
-                self.wait_after_empty_turn(rt, node, gate);
+                self.wait_after_empty_turn(rt, node, seat.clock().consensus, gate);
                 Ok(None)
             }
         }

@@ -109,6 +109,11 @@ impl<A: Allocator + Copy + Drop> Inbox<A> {
         self.pace.note_step(node, state, waiting);
     }
 
+    /// Records the number of turns until the node's consensus timeout is due.
+    pub(crate) fn note_turns_to_consensus(&self, turns: u16) {
+        self.pace.note_turns_to_consensus(turns);
+    }
+
     /// Returns whether calls submitted at the node had no answer after its last step.
     pub(crate) fn has_waiting_calls(&self) -> bool {
         self.pace.has_waiting_calls()
@@ -137,7 +142,9 @@ impl<A: Allocator + Copy + Drop> Inbox<A> {
     /// Rules: The book and the threads 29
     pub(crate) fn wait_paced<W: Wait>(&self, rt: &W, node: Proc) {
         match self.pace.count_empty_turn(node) {
-            EmptyTurn::InRow(number) if number % EMPTY_TURNS_PER_SLEEP == EMPTY_TURNS_TO_SLEEP => {
+            EmptyTurn::InRow(number)
+                if number % EMPTY_TURNS_PER_SLEEP == EMPTY_TURNS_TO_SLEEP
+                    && !self.pace.is_consensus_near() => {
                 let most = SLEEP_SLICE_MICROS * slices_of(node);
                 self.wait_for_item(rt, Duration::from_micros(most));
             }

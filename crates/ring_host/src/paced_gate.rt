@@ -38,8 +38,10 @@ const SHORT_REST_MILLIS: u64 = 1;
 /// Timeouts count turns, and an empty turn takes less than a microsecond. A node must not give up others whose threads
 /// wait for a processor, and a thread that yields waits longest on a loaded machine. So a node that finds nothing
 /// doesn't yield. It *sleeps* after 50 turns in a row that find nothing, and after each further 200, until an item
-/// comes: node 1 for at most 2 milliseconds, and each next node for 0.8 more. Node 1 gives up a ring that lost its
-/// token after some 190 sleeps. In Gather nodes nap as under [`OpenGate`](crate::OpenGate).
+/// comes: node 1 for at most 2 milliseconds, and each next node for 0.8 more. The 1,500 turns before its consensus
+/// timeout pass without a sleep: a node that entered Gather then would soon give up nodes whose joins are on their way.
+/// Node 1 gives up a ring that lost its token after some 160 sleeps. In Gather nodes nap as under
+/// [`OpenGate`](crate::OpenGate).
 ///
 /// Rules: The book and the threads 29
 #[derive(Drop)]

@@ -19,6 +19,12 @@ const EMPTY_TURNS_TO_NAP: u64 = 500;
 /// A node in Gather naps after each further such number of empty turns, in a row or not.
 const EMPTY_TURNS_PER_NAP: u64 = 200;
 
+/// Under `PacedGate` a node doesn't sleep in this number of turns before its consensus timeout.
+///
+/// Outside Gather that timeout changes nothing. Soon after the node enters Gather, it would give up nodes whose joins
+/// are on their way. So the time in which it is nearly due is short.
+const SLEEPLESS_TURNS: u16 = 1_500;
+
 /// The length of node 1's naps and sleeps, in slices.
 const FIRST_SLICES: u64 = 10;
 
@@ -54,6 +60,8 @@ pub(crate) struct Pace {
     in_gather: AtomicU64,
     /// The number of slices left of the present nap.
     slices_left: AtomicU64,
+    /// Whether the consensus timeout was due within 1,500 turns at the last empty turn.
+    is_consensus_near: AtomicBool,
 }
 
 impl Pace {
@@ -65,6 +73,7 @@ impl Pace {
             in_row: AtomicU64::new(0),
             in_gather: AtomicU64::new(0),
             slices_left: AtomicU64::new(0),
+            is_consensus_near: AtomicBool::new(false),
         }
     }
 
@@ -82,6 +91,17 @@ impl Pace {
         self.is_gathering.store(is_gathering, Ordering::SeqCst);
         let slices = if is_gathering { slices_of(node) } else { 0 };
         self.slices_left.store(slices, Ordering::SeqCst);
+    }
+
+    /// Records the number of turns until the node's consensus timeout is due.
+    pub(crate) fn note_turns_to_consensus(&self, turns: u16) {
+        let is_near = turns <= SLEEPLESS_TURNS;
+        self.is_consensus_near.store(is_near, Ordering::SeqCst);
+    }
+
+    /// Returns whether the consensus timeout is so near that a node outside Gather doesn't sleep.
+    pub(crate) fn is_consensus_near(&self) -> bool {
+        self.is_consensus_near.load(Ordering::SeqCst)
     }
 
     /// Returns whether calls submitted at the node had no answer after its last step.
