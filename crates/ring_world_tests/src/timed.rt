@@ -29,10 +29,9 @@ fn timeouts<O: Object>(
 }
 
 /// Brings times to the driver of a group of one without a network. Returns whether each timeout came when it was due.
-fn comes_in_time<O: Object>(alloc: O::Alloc) -> Result<bool, Fault> {
-    let mut driver = Driver::<O>::new(alloc, Fixed::new(1)?, 1)?;
+fn comes_in_time<O: Object>(alloc: O::Alloc, driver: &mut Driver<O>) -> Result<bool, Fault> {
     let is_unopened = driver.next_time().is_none();
-    let brought = timeouts(alloc, &mut driver, &[1000, 1009, 1010, 900, 1020])?;
+    let brought = timeouts(alloc, driver, &[1000, 1009, 1010, 900, 1020])?;
     let wanted = [
         (1010, Kind::Join),
         (1020, Kind::Join),
@@ -41,34 +40,58 @@ fn comes_in_time<O: Object>(alloc: O::Alloc) -> Result<bool, Fault> {
     Ok(is_unopened && brought.as_slice() == wanted.as_slice() && driver.next_time() == Some(1030))
 }
 
-/// Whether a driver of a group of one that hears its own frames tells that it installs ring 1.1, which is primary, at the third.
-fn installs_once<O: Object>(alloc: O::Alloc) -> Result<bool, Fault> {
-    let mut driver = Driver::<O>::new(alloc, Fixed::new(1)?, 1)?;
-    let _ = timeouts(alloc, &mut driver, &[0, 10])?;
-    let mut count = 0u8;
-    for _ in 0..FRAMES {
-        if driver.has_installed() {
-            return Ok(false);
-        }
-        if let Some((_, frame)) = driver.next_send() {
+/// Gives the driver the next frame that it sent, if there is one. Returns whether there was one.
+fn hear_own_frame<O: Object>(driver: &mut Driver<O>) -> Result<bool, Fault> {
+    match driver.next_send() {
+        Some((_, frame)) => {
             driver.receive(frame)?;
-            count = count.saturating_add(1);
+            Ok(true)
+        }
+        None => Ok(false),
+    }
+}
+
+/// Whether a driver of a group of one that hears its own frames tells that it installs ring 1.1, which is primary, at the third.
+fn installs_once<O: Object>(alloc: O::Alloc, driver: &mut Driver<O>) -> Result<bool, Fault> {
+    timeouts(alloc, driver, &[0, 10])?;
+    for _ in 0..FRAMES {
+        let has_installed = driver.has_installed();
+        if !hear_own_frame(driver)? || has_installed {
+            return Ok(false);
         }
     }
     let is_first = driver.node().ring().seq == 1 && driver.is_primary();
-    Ok(count == FRAMES && driver.has_installed() && is_first)
+    Ok(driver.has_installed() && is_first)
+}
+
+/// What is tried with a driver.
+#[derive(Clone, Copy)]
+enum Trial {
+    Timeouts,
+    Installation,
+}
+
+/// Tries it with the new driver of a group of one. Returns whether all was as it should be.
+fn is_right<O: Object>(alloc: O::Alloc, trial: Trial) -> Result<bool, Fault> {
+    let mut driver = Driver::<O>::new(alloc, Fixed::new(1)?, 1)?;
+    let is_right = match trial {
+        Trial::Timeouts => comes_in_time(alloc, &mut driver),
+        Trial::Installation => installs_once(alloc, &mut driver),
+    };
+    drop(driver);
+    is_right
 }
 
 #[test]
 fn timeouts_come_by_the_time(rt: HostRuntime) -> Result<(), Fail> {
     let heap = RefusingHeap::new(rt.alloc(), u64::MAX);
-    assert!(rt; comes_in_time::<Counters<&RefusingHeap>>(&heap)?);
+    assert!(rt; is_right::<Counters<&RefusingHeap>>(&heap, Trial::Timeouts)?);
     Ok(())
 }
 
 #[test]
 fn an_installed_ring_is_told(rt: HostRuntime) -> Result<(), Fail> {
     let heap = RefusingHeap::new(rt.alloc(), u64::MAX);
-    assert!(rt; installs_once::<Counters<&RefusingHeap>>(&heap)?);
+    assert!(rt; is_right::<Counters<&RefusingHeap>>(&heap, Trial::Installation)?);
     Ok(())
 }
