@@ -22,8 +22,9 @@ that didn't answer all its calls is told, and not counted. Ratios matter: second
 
 The soak ends with status 1 if a host's history was not legal; if a call at a node that was not stopped has no answer, and its
 client wasn't told why; or if memory grew: if the process held more than 1.1 times as much after a host of the last quarter as
-after one of the second. The process has one heap for all threads (MALLOC_ARENA_MAX of glibc), so that what one host gave back
-serves the next. With a heap for each thread it would hold more and more of them half empty.
+after one of the second, times by how much the longest book had grown, since what a long book took stays with the process. The
+process has one heap for all threads (MALLOC_ARENA_MAX of glibc), so that what one host gave back serves the next. With a heap for
+each thread it would hold more and more of them half empty.
 
 A host settles if all calls at nodes that were not stopped are answered and its history is legal; under `PacedGate` also within
 20,000 lines and 10 seconds. Each host runs in a process of its own, for at most two minutes. --settle ends with status 1 if fewer
@@ -170,10 +171,11 @@ def soak(program):
     child.wait()
     quarter = max(1, len(holds) // 4)
     early, late = max(holds[quarter:2 * quarter] or holds or [0]), max(holds[-quarter:] or [0])
+    longer = max(lines, default=1) / max(lines[:2 * quarter] or lines, default=1)
     print(f"{len(holds)} hosts of {min(lines, default=0):,} to {max(lines, default=0):,} lines, {answered:,} calls answered; {wrong} not legal, "
           f"{told_why} with clients that were told why calls at nodes that go on have no answer, {lost} where they were not told; "
           f"at most {early:,} bytes early, {late:,} late")
-    return int(not holds or wrong > 0 or lost > 0 or late > 1.1 * early)
+    return int(not holds or wrong > 0 or lost > 0 or late > 1.1 * longer * early)
 
 
 def settling(program, word):
